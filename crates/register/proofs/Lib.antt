@@ -1,0 +1,4 @@
+mod Chain
+mod Short
+mod Tails
+mod Taking

@@ -1,0 +1,7 @@
+pub mod Sides
+pub mod Codes
+pub mod Terms
+pub mod Prices
+pub mod Identifiers
+pub mod Made
+pub mod Shown
