@@ -45,5 +45,5 @@ tested xs ys r h = search (needs, sameBytes-decides)
 pub is-short : (v id name : List ℕ) (r : Bool) → name ≡ short-name id → Decides r (v ≡ take 12 name) → r ≡ sameBytes v (short-name id)
 is-short v id name r e d =
     let same : take 12 name ≡ short-name id =
-      ap (λ z. take 12 z) e ∙ take-all 12 (short-name id) (simp length-take (omega arith))
+    ap (λ z. take 12 z) e ∙ take-all 12 (short-name id) (simp length-take (omega arith))
     in tested v (short-name id) r (subst (λ z. Decides r (v ≡ z)) same d)

@@ -1,5 +1,9 @@
 -- Number, layer and place of each fault. Layers: 1 the field, 2 the order, 3 the ticket.
 use Prim.Native.Nat.{ℕ}
+use mathlib.Core.List.{List, _++_}
+use lib.Chars.{codes}
+use Rattle.std.specs.Written.{decimal}
+use Rattle.terms.specs.Shown.{refusal-words}
 use Rattle.std.specs.declared.result.Result.{Result}
 use Rattle.std.specs.declared.result.Result.the-variants.{Ok, Err}
 use Rattle.terms.specs.declared.kinds.Draft.{Draft}
@@ -25,6 +29,17 @@ abbrev pub fault-place : Fault → ℕ
 fault-place (CutShort place) = place
 fault-place (Malformed place) = place
 fault-place (Ticket why place) = place
+
+abbrev pub fault-words : Fault → List ℕ
+fault-words (CutShort place) = codes "field cut short"
+fault-words (Malformed place) = codes "order malformed"
+fault-words (Ticket why place) = refusal-words why
+
+-- as people read it: number, layer, place, words
+abbrev pub fault-text : Fault → List ℕ
+fault-text e =
+    decimal (fault-number e)
+    ++ (codes " (layer " ++ (decimal (fault-layer e) ++ (codes ", at " ++ (decimal (fault-place e) ++ (codes "): " ++ fault-words e)))))
 
 -- the ticket of an order that is listed at a place
 abbrev pub listed-ticket : ℕ → Draft → Result OrderTerms Fault

@@ -18,7 +18,10 @@ impl<'a> Reader<'a> {
         ensures register { λ r. ⌜ now (r .register) ≡ now (register .entry) ⌝ }
         ensures rest { λ r. ⌜ now (r .rest) ≡ now (register .entry) ⌝ }
     {
-        Reader { register, rest: register }
+        Reader {
+            register,
+            rest: register,
+        }
     }
 
     // The next order, or the fault that ends the reading; nothing at the register's end.
@@ -34,9 +37,16 @@ impl<'a> Reader<'a> {
         match read_order(self.register.len(), self.rest) {
             Ok((identifier, draft, rest)) => {
                 let place = self.register.len() - self.rest.len();
-                let identifier = Part { bytes: identifier, place: place + 3 };
+                let identifier = Part {
+                    bytes: identifier,
+                    place: place + 3,
+                };
                 self.rest = rest;
-                Some(Ok(Listed { place, identifier, draft }))
+                Some(Ok(Listed {
+                    place,
+                    identifier,
+                    draft,
+                }))
             }
             Err(fault) => {
                 self.rest = &[];

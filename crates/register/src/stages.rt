@@ -41,7 +41,12 @@ fn next_is(rest: &[u8], tag: u8) -> bool
 }
 
 // Past the short name, if there is one; it must be that of the identifier.
-pub(crate) fn past_short_name<'a>(total: usize, start: usize, rest: &'a [u8], identifier: &[u8]) -> Result<&'a [u8], Fault>
+pub(crate) fn past_short_name<'a>(
+    total: usize,
+    start: usize,
+    rest: &'a [u8],
+    identifier: &[u8],
+) -> Result<&'a [u8], Fault>
     ensures { λ r. ⌜ ((o : Listed) → o .identifier ≡ now (identifier .entry) → order-past o r ≡ read-field total start short-name-field (record { order = o; rest = now (rest .entry) })) ⌝ }
 {
     if !next_is(rest, 6) {
@@ -102,6 +107,14 @@ pub(crate) fn read_ticket(total: usize, start: usize, rest: &[u8]) -> Result<(Dr
     let (shares, rest) = number(total, start, rest, 3)?;
     let (limit, rest) = number(total, start, rest, 4)?;
     let (offset, rest) = offset(total, start, rest)?;
-    let draft = Draft { side, kind, time_in_force, qdp, shares, limit, offset };
+    let draft = Draft {
+        side,
+        kind,
+        time_in_force,
+        qdp,
+        shares,
+        limit,
+        offset,
+    };
     Ok((draft, rest))
 }

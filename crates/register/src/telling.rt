@@ -1,6 +1,7 @@
 // What a fault tells, and the ticket of a listed order.
 ghost use mathlib.Core.Path.{_≡_};
-ghost use Rattle.register.specs.Faults.{fault-number, fault-layer, fault-place, listed-ticket, ticket-or-fault};
+ghost use Rattle.register.specs.Faults.{fault-number, fault-layer, fault-place, fault-words, fault-text, listed-ticket, ticket-or-fault};
+ghost use Rattle.std.specs.declared.option.Option.the-variants.{Some};
 use crate::faults::Fault;
 use crate::listed::Listed;
 use std::fmt;
@@ -47,11 +48,26 @@ impl Listed<'_> {
     }
 }
 
+impl Fault {
+    pub fn words(self) -> &'static str
+        ensures { λ r. ⌜ now r ≡ fault-words self ⌝ }
+    {
+        match self {
+            Fault::CutShort(_) => "field cut short",
+            Fault::Malformed(_) => "order malformed",
+            Fault::Ticket(refusal, _) => refusal.words(),
+        }
+    }
+}
+
 pub impl fmt::Display for Fault as FaultDisplay {
+    ghost shown = { λ e. Some (fault-text e) };
+
     fn fmt<W: fmt::Write>(&self, f: &mut fmt::Formatter<W>) -> fmt::Result {
         let number = self.number();
         let layer = self.layer();
         let place = self.place();
-        write!(f, "fault {number} of layer {layer} at {place}")
+        let words = self.words();
+        write!(f, "{number} (layer {layer}, at {place}): {words}")
     }
 }

@@ -5,6 +5,8 @@ use lib.Chars.{codes}
 use Rattle.std.specs.Written.{decimal}
 use Rattle.terms.specs.declared.kinds.Side.{Side}
 use Rattle.terms.specs.declared.kinds.Side.the-variants.{Buy, Sell}
+use Rattle.terms.specs.declared.kinds.Refusal.{Refusal}
+use Rattle.terms.specs.declared.kinds.Refusal.the-variants as refusal
 use Rattle.terms.specs.declared.kinds.Kind.{Kind}
 use Rattle.terms.specs.declared.kinds.Kind.the-variants.{DisplayedLimit, HiddenLimit, DisplayedMdo, HiddenMdo, MidpointPeg}
 
@@ -18,6 +20,15 @@ kind-words HiddenLimit = codes "hidden limit"
 kind-words DisplayedMdo = codes "displayed MDO"
 kind-words HiddenMdo = codes "hidden MDO"
 kind-words MidpointPeg = codes "midpoint peg"
+
+abbrev pub refusal-words : Refusal → List ℕ
+refusal-words refusal.UnknownCode = codes "no such code"
+refusal-words refusal.Shares = codes "shares out of range"
+refusal-words refusal.Limit = codes "limit out of range"
+refusal-words refusal.Offset = codes "offset out of range"
+refusal-words refusal.Combination = codes "parts do not go together"
+refusal-words refusal.Quote = codes "quote not lawful"
+refusal-words refusal.Identifier = codes "identifier not lawful"
 
 -- 1998 half-cents are 9.990 dollars
 abbrev pub in-dollars : ℕ → List ℕ

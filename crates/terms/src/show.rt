@@ -1,8 +1,9 @@
 // What people read of an order.
 ghost use mathlib.Core.Path.{_≡_};
 ghost use Rattle.std.specs.declared.option.Option.the-variants.{Some};
-ghost use Rattle.terms.specs.Shown.{side-word, kind-words, in-dollars};
+ghost use Rattle.terms.specs.Shown.{side-word, kind-words, refusal-words, in-dollars};
 use crate::kinds::Kind;
+use crate::kinds::Refusal;
 use crate::kinds::Side;
 use std::fmt;
 
@@ -27,6 +28,22 @@ impl Kind {
             Kind::DisplayedMdo => "displayed MDO",
             Kind::HiddenMdo => "hidden MDO",
             Kind::MidpointPeg => "midpoint peg",
+        }
+    }
+}
+
+impl Refusal {
+    pub fn words(self) -> &'static str
+        ensures { λ r. ⌜ now r ≡ refusal-words self ⌝ }
+    {
+        match self {
+            Refusal::UnknownCode => "no such code",
+            Refusal::Shares => "shares out of range",
+            Refusal::Limit => "limit out of range",
+            Refusal::Offset => "offset out of range",
+            Refusal::Combination => "parts do not go together",
+            Refusal::Quote => "quote not lawful",
+            Refusal::Identifier => "identifier not lawful",
         }
     }
 }

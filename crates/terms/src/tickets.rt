@@ -31,7 +31,13 @@ fn is_aggressive(side: Side, offset: i32) -> bool
     }
 }
 
-fn parts_go_together(side: Side, kind: Kind, time_in_force: TimeInForce, qdp: bool, offset: i32) -> bool
+fn parts_go_together(
+    side: Side,
+    kind: Kind,
+    time_in_force: TimeInForce,
+    qdp: bool,
+    offset: i32,
+) -> bool
     ensures { λ r. ⌜ r ≡ go-together side kind «time_in_force» qdp offset ⌝ }
 {
     let ioc = matches!(time_in_force, TimeInForce::ImmediateOrCancel);
@@ -41,7 +47,15 @@ fn parts_go_together(side: Side, kind: Kind, time_in_force: TimeInForce, qdp: bo
         && (!is_aggressive(side, offset) || (hidden_mdo && !qdp))
 }
 
-fn judge(side: Side, kind: Kind, time_in_force: TimeInForce, qdp: bool, shares: u32, limit: u32, offset: i32) -> Result<Ticket, Refusal>
+fn judge(
+    side: Side,
+    kind: Kind,
+    time_in_force: TimeInForce,
+    qdp: bool,
+    shares: u32,
+    limit: u32,
+    offset: i32,
+) -> Result<Ticket, Refusal>
     ensures { λ r. ⌜ as-terms r ≡ judged (record { side = side; kind = kind; time-in-force = «time_in_force»; qdp = qdp; shares = shares; limit = limit; offset = offset }) ⌝ }
 {
     if !(1..=1_000_000).contains(&shares) {
@@ -57,7 +71,15 @@ fn judge(side: Side, kind: Kind, time_in_force: TimeInForce, qdp: bool, shares: 
         return Err(Refusal::Combination);
     }
     Ok(Ticket {
-        terms: Terms { side, kind, time_in_force, qdp, shares, limit, offset },
+        terms: Terms {
+            side,
+            kind,
+            time_in_force,
+            qdp,
+            shares,
+            limit,
+            offset,
+        },
     })
 }
 
@@ -78,7 +100,15 @@ impl Ticket {
         let Some(qdp) = qdp_from_code(draft.qdp) else {
             return Err(Refusal::UnknownCode);
         };
-        judge(side, kind, time_in_force, qdp, draft.shares, draft.limit, draft.offset)
+        judge(
+            side,
+            kind,
+            time_in_force,
+            qdp,
+            draft.shares,
+            draft.limit,
+            draft.offset,
+        )
     }
 
     pub fn terms(&self) -> Terms
@@ -91,7 +121,8 @@ impl Ticket {
     pub fn again(&self) -> Ticket
         ensures { λ r. ⌜ r ≡ now (self .entry) ⌝ }
     {
-        Ticket { terms: self.terms }
+        let Ticket { terms } = self;
+        Ticket { terms: *terms }
     }
 }
 

@@ -10,16 +10,17 @@ pub sub-place : need.sub-place
 sub-place c = tail-fits (c .args .self .now .register .now) (c .args .self .now .rest .now) (c .args .self .now .end)
 
 pub ghost-self : need.ghost-self
-ghost-self c =
-    (tail-trans (c .args .self .now .register .now) (c .args .self .now .rest .now) (c .in-Ok .rest .now) (c .args .self .now .end)
-    (tail-read-order _ (c .args .self .now .rest .now) _ (c .in-Ok .ensures tt .order)),
-    tt)
+ghost-self c = (
+  tail-trans (c .args .self .now .register .now) (c .args .self .now .rest .now) (c .in-Ok .rest .now) (c .args .self .now .end)
+      (tail-read-order _ (c .args .self .now .rest .now) _ (c .in-Ok .ensures tt .order)),
+  tt,
+)
 
 pub ghost-self-in-Err : need.ghost-self-in-Err
 ghost-self-in-Err c = (tail-none (c .args .self .now .register .now), tt)
 
 pub returns-in-Ok : need.returns-in-Ok
-returns-in-Ok c = 
+returns-in-Ok c =
     record {
       order =
           ap Some (c .in-Ok .ensures tt .order)
