@@ -1,0 +1,9 @@
+mod Printable
+mod Distinct
+mod Changes
+mod Standing
+mod Ring
+mod Slots
+mod Gap
+mod Look
+mod Tables

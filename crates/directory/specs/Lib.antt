@@ -1,0 +1,5 @@
+pub mod Pairs
+pub mod Entries
+pub mod Rows
+pub mod Table
+pub mod Hashed

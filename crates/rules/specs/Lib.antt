@@ -1,0 +1,13 @@
+pub mod Limits
+pub mod Market
+pub mod Priority
+pub mod Sweep
+pub mod Clock
+pub mod Answers
+pub mod Calls
+pub mod Questions
+pub mod Runs
+pub mod Laws
+pub mod Examples
+pub mod PriorityRuns
+pub mod RefusalRuns
