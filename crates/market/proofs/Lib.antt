@@ -1,0 +1,2 @@
+pub mod Lined
+pub mod Written

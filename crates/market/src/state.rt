@@ -1,0 +1,8 @@
+// The order table and the tape that its lines go to.
+use orders::table::Table;
+use tape::tapes::Tape;
+
+pub struct Market<T: Tape> {
+    pub(crate) table: Table,
+    pub(crate) tape: T,
+}

@@ -1,0 +1,6 @@
+pub mod Changed
+pub mod Folds
+pub mod Found
+pub mod Joined
+pub mod Retired
+pub mod Traded

@@ -1,0 +1,15 @@
+// The order table: the rows of resting orders, and the scans over them.
+pub mod displays;
+pub mod finding;
+pub mod identifier;
+pub mod joining;
+pub mod lowering;
+pub mod naming;
+pub mod opening;
+pub mod prices;
+pub mod retiring;
+pub mod row;
+pub mod scans;
+mod sides;
+pub mod table;
+pub mod trading;
