@@ -1,2 +1,5 @@
+pub mod EachSwept
 pub mod Lined
+pub mod Settled
+pub mod Turns
 pub mod Written

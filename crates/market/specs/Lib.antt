@@ -1,1 +1,2 @@
 pub mod Markets
+pub mod Rounds

@@ -1,3 +1,6 @@
 // The market: sweeps and protection periods, over the order table and any tape.
+pub mod round;
+pub mod rounds;
+pub mod settling;
 pub mod state;
 pub mod sweeps;

@@ -1,8 +1,8 @@
 -- One row changed in place, as the rule book changes its list of orders. A change that alters only the order with the number k
 -- is By-number; since entry numbers ascend, no other row has that number, so the change of the list is the change of that one
--- row. Cite: lower-at, without-at for the row at an index, absent where no order has the number, and
--- rising-set for the ascending numbers.
-use mathlib.Core.Bool.{true, false, _&&_}
+-- row. Cite: lower-at, without-at for the row at an index, absent where no order has the number,
+-- rising-set for the ascending numbers, only-shares for what stays of the rows.
+use mathlib.Core.Bool.{true, _&&_}
 use mathlib.Core.List.{List, [], _∷_, map}
 use mathlib.Core.Logic.{inl, inr}
 use mathlib.Core.Path.{refl, sym, ap, _≡_, _∙_}
@@ -10,7 +10,7 @@ use Prim.Native.Nat.{ℕ, zero, suc, _-_, _<_, _≤_}
 use native.Mathlib.Omega.{arith}
 use lib.Dec.{eqb, leb, ltb}
 use lib.ListN.{length, getD, set}
-use Rattle.std.proofs.shelf.Lists.{map-set, getD-map, set-getD, getD-set-other}
+use Rattle.std.proofs.shelf.Lists.{map-set, getD-map, set-getD, getD-set-other, length-set}
 use Rattle.std.proofs.shelf.Tests.{ltb-true, lt-ltb, le-ltb, leb-true, leb-false, eqb-false, eq-eqb, ne-eqb, and-parts, cases-bool}
 use Rattle.std.specs.declared.option.Option.the-variants.{Some, None}
 use Rattle.rules.specs.Market.{Order, resting, without, less, lowered, lower}
@@ -152,9 +152,10 @@ only-shares k rs i r left at is =
     ∙ set-getD (map (with-left 0) rs) i r
     in
     record {
+      count = length-set rs i (with-left left r);
       same = kept;
       others = λ j d other. getD-set-other rs i j (with-left left r) d (λ h. other (ap (λ m. getD rs m d .number) h ∙ at .number d));
     }
 
 pub unchanged : (k : ℕ) (rs : List Row) → Only-shares-of k rs rs
-unchanged k rs = record { same = refl; others = λ i d other. refl }
+unchanged k rs = record { count = refl; same = refl; others = λ i d other. refl }

@@ -1,6 +1,6 @@
 -- Rows side by side: their orders are those of both parts, and a row above the newest number keeps the numbers ascending. By
 -- induction over the first part. Cite: orders-in-append, orders-in-one, rising-push; newest-last for what `newest` reads.
-use mathlib.Core.Bool.{true, _&&_}
+use mathlib.Core.Bool.{true}
 use mathlib.Core.List.{List, [], _∷_, _++_}
 use mathlib.Core.Logic.{inl, inr}
 use mathlib.Core.Path.{refl, sym, ap, _≡_, _∙_}

@@ -1,6 +1,6 @@
 -- A row that rests no more can be dropped: the orders stay, and so do ascending numbers. By induction over the rows before it.
 -- Cite: orders-in-dropped, rising-dropped for the row between two parts; rests-more, first-here for a loop over rows that rest.
-use mathlib.Core.Bool.{true, false, _&&_}
+use mathlib.Core.Bool.{true, false}
 use mathlib.Core.List.{List, [], _∷_, _++_, map}
 use mathlib.Core.Path.{refl, sym, ap, subst, _≡_, _∙_}
 use Prim.Native.Nat.{ℕ, suc, _+_, _<_, _≤_}
@@ -11,7 +11,6 @@ use lib.Seq.{drop-cons}
 use Rattle.std.proofs.shelf.Lists.{take-more, map-push, length-map, take-append-drop, take-all, getD-read}
 use Rattle.std.proofs.shelf.Tests.{ltb-true, lt-ltb, le-ltb, and-parts, and-from}
 use Rattle.std.specs.Holes.{removed}
-use Rattle.orders.specs.declared.identifier.Identifier.{Identifier}
 use Rattle.orders.specs.declared.row.Row.{Row}
 use Rattle.orders.specs.Rows.{row-order, rising, rests, orders-in}
 use Rattle.orders.specs.Changes.{All-rest, First-spent, Retired}

@@ -21,9 +21,14 @@ pub record Rests-at (rs : List Row) (k i : ℕ) : Type 0 where
 abbrev pub with-left : ℕ → Row → Row
 with-left n r = record { identifier = r .identifier; number = r .number; terms = r .terms; left = n }
 
+-- the rows are the same, but for the shares left of them
+abbrev pub Same-but-shares : List Row → List Row → Type 0
+Same-but-shares before after = map (with-left 0) after ≡ map (with-left 0) before
+
 -- only the shares left of the row with that entry number may differ
 pub record Only-shares-of (k : ℕ) (before after : List Row) : Type 0 where
-  pub same : map (with-left 0) after ≡ map (with-left 0) before
+  pub count : length after ≡ length before
+  pub same : Same-but-shares before after
   pub others : (i : ℕ) (d : Row) → (getD before i d .number ≡ k → ⊥) → getD after i d ≡ getD before i d
 
 -- the entry number of the last row, which is the highest; `low` where there is none

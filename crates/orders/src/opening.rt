@@ -1,10 +1,10 @@
-// A new table, its quote and the ends of its protection periods.
+// A new table; its quote and the ends of its protection periods are set here.
 ghost use mathlib.Core.List.{List, []};
 ghost use mathlib.Core.Path.{_≡_};
 ghost use Rattle.std.specs.Of.Vec.{vec-items};
 ghost use Rattle.std.specs.Vec.{made};
 ghost use Rattle.tape.specs.declared.line.Line.{Line};
-ghost use Rattle.rules.specs.Market.{end-of, with-end, with-quote};
+ghost use Rattle.rules.specs.Market.{with-end, with-quote};
 ghost use Rattle.rules.specs.Runs.{opened};
 ghost use Rattle.orders.specs.Seen.{market-with, seen};
 use crate::table::Table;
@@ -28,22 +28,6 @@ impl Table {
             buy_end: None,
             sell_end: None,
         })
-    }
-
-    pub fn quote(&self) -> Quote
-        ensures { λ r. ⌜ r ≡ now (self .entry) .quote ⌝ }
-    {
-        self.quote
-    }
-
-    // When the side's protection period ends, where one runs.
-    pub fn end(&self, side: Side) -> Option<u64>
-        ensures { λ r. ⌜ r ≡ end-of side (seen (now (self .entry))) ⌝ }
-    {
-        match side {
-            Side::Buy => self.buy_end,
-            Side::Sell => self.sell_end,
-        }
     }
 
     pub fn set_quote(&mut self, quote: Quote)

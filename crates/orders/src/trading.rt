@@ -9,6 +9,8 @@ ghost use Rattle.rules.specs.Market.{with-orders, lower};
 ghost use Rattle.rules.specs.Sweep.{trade as tradeOf, side-mark, depletes as depletesOf};
 ghost use Rattle.orders.specs.Rows.{row-order};
 ghost use Rattle.orders.specs.Seen.{market-with, seen};
+ghost use Rattle.std.specs.Of.Vec.{vec-items};
+ghost use Rattle.orders.specs.Changes.{Same-but-shares};
 ghost use Rattle.orders.specs.Trading.{mark-if, protected-if};
 use crate::row::Row;
 use crate::table::Table;
@@ -38,6 +40,7 @@ impl Table {
     fn lower_partner(&mut self, partner: &Row, shares: u32) -> bool
         ensures depletes { λ r. ⌜ r ≡ depletesOf (seen (now (self .entry))) (row-order (now (partner .entry))) (lower (now (partner .entry) .number) shares (seen (now (self .entry)) .orders)) ⌝ }
         ensures market { λ _. ⌜ ((tape : List TradeLine) → market-with tape (now (self .exit)) ≡ with-orders (lower (now (partner .entry) .number) shares (market-with tape (now (self .entry)) .orders)) (market-with tape (now (self .entry)))) ⌝ }
+        ensures rows { λ _. ⌜ Same-but-shares (vec-items (now (self .entry) .rows)) (vec-items (now (self .exit) .rows)) ⌝ }
     {
         let side = partner.terms.side;
         let ranked = self.ranked(partner);
@@ -51,6 +54,7 @@ impl Table {
     fn protect_if(&mut self, depletes: bool, time: u64, side: Side) -> Mark
         ensures mark { λ r. ⌜ r ≡ mark-if depletes side ⌝ }
         ensures market { λ _. ⌜ (time ≤ last-moment → (tape : List TradeLine) → market-with tape (now (self .exit)) ≡ protected-if depletes time side (market-with tape (now (self .entry)))) ⌝ }
+        ensures rows { λ _. ⌜ Same-but-shares (vec-items (now (self .entry) .rows)) (vec-items (now (self .exit) .rows)) ⌝ }
     {
         if !depletes {
             return Mark::Nothing;
@@ -61,7 +65,8 @@ impl Table {
 
     // One line at the time, for a taker at the price; the line is handed back for the tape.
     pub fn trade(&mut self, time: u64, price: u32, taker: &Row, partner: &Row) -> Line
-        ensures { λ r. ⌜ (time ≤ last-moment → (tape : List TradeLine) → market-with (tape ++ (r ∷ [])) (now (self .exit)) ≡ tradeOf time price (row-order (now (taker .entry))) (row-order (now (partner .entry))) (market-with tape (now (self .entry)))) ⌝ }
+        ensures market { λ r. ⌜ (time ≤ last-moment → (tape : List TradeLine) → market-with (tape ++ (r ∷ [])) (now (self .exit)) ≡ tradeOf time price (row-order (now (taker .entry))) (row-order (now (partner .entry))) (market-with tape (now (self .entry)))) ⌝ }
+        ensures rows { λ _. ⌜ Same-but-shares (vec-items (now (self .entry) .rows)) (vec-items (now (self .exit) .rows)) ⌝ }
     {
         let shares = partner.left.min(taker.left);
         let line_price = self.line_price(price, partner);

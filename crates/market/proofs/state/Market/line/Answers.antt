@@ -9,6 +9,7 @@ returns g c =
     record {
       market =
           λ h k. ap (λ ls. market-with ls (c .trade-line .last .self)) (w .line k)
-          ∙ c .trade-line .ensures h (g .T·Tape .lines (c .args .self .now .tape));
+          ∙ c .trade-line .ensures .market h (g .T·Tape .lines (c .args .self .now .tape));
       capacity = w .capacity;
+      rows = c .trade-line .ensures .rows;
     }

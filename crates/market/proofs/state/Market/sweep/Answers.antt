@@ -22,8 +22,9 @@ loop-turn-again g c =
     ∙ lines-go (c .args .time) (c .reach-price .result) o left here (row-order (c .in-Some .row)) (row-order (c .in-Some-partner-for .partner)) (sym (c .in-Some .ensures tt)) partner
     in (
       c .line .ensures .capacity ∙ c .loop-turn .inv .0,
+      c .line .ensures .rows ∙ c .loop-turn .inv .1,
       λ h k.
-          let so = c .loop-turn .inv .1 h k ∙ go in
+          let so = c .loop-turn .inv .2 h k ∙ go in
           so
           ∙ ap (lines left (c .args .time) (c .reach-price .result) o)
           (sym (c .line .ensures .market h (line-free (c .args .time) (c .reach-price .result) o left here _ (row-order (c .in-Some .row)) (row-order (c .in-Some-partner-for .partner)) (capacity-of (g .T·Tape) (c .args .self .now)) _ so k (c .loop-turn .inv .0)))),
@@ -36,9 +37,10 @@ returns-in-rest g c =
     let e = sweep-lines (g .T·Tape .lines (c .args .self .now .tape)) (c .args .self .now .table) (c .args .time) o (c .len-resting-turns .result) (c .reach-price .result) (c .len-resting-turns .ensures) (c .reach-price .ensures) in
     record {
       market =
-          λ h k. sym (e ∙ c .loop-turn .inv .1 h (subst (λ (m : Market). length (m .tape) ≤ capacity-of (g .T·Tape) (c .args .self .now)) e k)
+          λ h k. sym (e ∙ c .loop-turn .inv .2 h (subst (λ (m : Market). length (m .tape) ≤ capacity-of (g .T·Tape) (c .args .self .now)) e k)
           ∙ lines-gone (c .args .time) (c .reach-price .result) o _ (market-of (g .T·Tape) (c .loop-turn .self)) (sym (c .in-rest .ensures tt)));
       capacity = c .loop-turn .inv .0;
+      rows = c .loop-turn .inv .1;
     }
 
 pub returns-in-rest-partner-for : need.returns-in-rest-partner-for
@@ -48,9 +50,10 @@ returns-in-rest-partner-for g c =
     let e = sweep-lines (g .T·Tape .lines (c .args .self .now .tape)) (c .args .self .now .table) (c .args .time) o (c .len-resting-turns .result) (c .reach-price .result) (c .len-resting-turns .ensures) (c .reach-price .ensures) in
     record {
       market =
-          λ h k. sym (e ∙ c .loop-turn .inv .1 h (subst (λ (m : Market). length (m .tape) ≤ capacity-of (g .T·Tape) (c .args .self .now)) e k)
+          λ h k. sym (e ∙ c .loop-turn .inv .2 h (subst (λ (m : Market). length (m .tape) ≤ capacity-of (g .T·Tape) (c .args .self .now)) e k)
           ∙ lines-alone (c .args .time) (c .reach-price .result) o _ (market-of (g .T·Tape) (c .loop-turn .self)) (row-order (c .in-Some .row)) (sym (c .in-Some .ensures tt)) (sym (c .in-rest-partner-for .ensures tt ∙ partner-still tape (c .loop-turn .self .table) o (c .reach-price .result))));
       capacity = c .loop-turn .inv .0;
+      rows = c .loop-turn .inv .1;
     }
 
 pub returns : need.returns
@@ -60,7 +63,8 @@ returns g c =
     let e = sweep-lines (g .T·Tape .lines (c .args .self .now .tape)) (c .args .self .now .table) (c .args .time) o (c .len-resting-turns .result) (c .reach-price .result) (c .len-resting-turns .ensures) (c .reach-price .ensures) in
     record {
       market =
-          λ h k. sym (e ∙ c .loop-turn .inv .1 h (subst (λ (m : Market). length (m .tape) ≤ capacity-of (g .T·Tape) (c .args .self .now)) e k)
+          λ h k. sym (e ∙ c .loop-turn .inv .2 h (subst (λ (m : Market). length (m .tape) ≤ capacity-of (g .T·Tape) (c .args .self .now)) e k)
           ∙ lines-none (c .args .time) (c .reach-price .result) o _ (market-of (g .T·Tape) (c .loop-turn .self)) (omega (arith, c .loop-turn-test .left)));
       capacity = c .loop-turn .inv .0;
+      rows = c .loop-turn .inv .1;
     }

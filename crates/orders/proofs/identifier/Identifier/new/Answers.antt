@@ -1,5 +1,4 @@
 use mathlib.Core.Path.{ap, _∙_}
-use Prim.Native.Nat.{_≤_}
 use lib.ListN.{length}
 use lib.Seq.{take-at}
 use native.Mathlib.Omega.{arith}

@@ -1,7 +1,6 @@
 use borrow.Author.Needs.{needs}
-use mathlib.Core.Bool.{true, false, _&&_}
 use mathlib.Core.List.{[], _∷_, _++_}
-use mathlib.Core.Path.{_≡_, refl, sym, ap, _∙_}
+use mathlib.Core.Path.{_≡_, sym, ap, _∙_}
 use Prim.Native.Nat.{_<_}
 use native.Mathlib.Omega.{arith}
 use lib.Dec.{ltb}
@@ -18,7 +17,7 @@ pub ghost-self : need.ghost-self
 ghost-self c =
     let self = c .args .self .now in
     let rows = vec-items (self .rows) in
-    let above : newest-number 0 rows < c .args .row .number = omega (arith, c .newest .ensures, c .if-row-newest .left) in
+    let above : newest-number 0 rows < c .args .row .number = omega arith in
     (search needs, (search needs, (ap (rising 0) (c .push-reserved .ensures .items) ∙ rising-push 0 rows (c .args .row) (self .ascending) above, tt)))
 
 pub returns : need.returns
@@ -27,8 +26,8 @@ returns c =
     let rows = vec-items (self .rows) in
     let row = c .args .row in
     let items = c .push-reserved .ensures .items in
-    let above : newest-number 0 rows < row .number = omega (arith, c .newest .ensures, c .if-row-newest .left) in
-    let room : vec-len (self .rows) < 65 = omega (arith, c .len .ensures, c .if-len-ge-MOST-ROWS .left) in
+    let above : newest-number 0 rows < row .number = omega arith in
+    let room : vec-len (self .rows) < 65 = omega arith in
     let after : 0 < row .left → orders-in (vec-items (c .push-reserved .last .self)) ≡ orders-in rows ++ row-order row ∷ [] = λ some.
     ap orders-in items ∙ orders-in-append rows (row ∷ []) ∙ ap (λ os. orders-in rows ++ os) (orders-in-one row (lt-ltb 0 (row .left) some))
     in

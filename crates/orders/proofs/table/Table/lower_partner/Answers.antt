@@ -17,4 +17,5 @@ returns c =
           (c .lower .ensures .market []) (c .ranked-ranked .ensures) (c .is-displayed .ensures) (c .is-best-displayed-best .ensures) (c .displayed-shares .ensures)
           (ap (ltb (c .displayed-shares .result)) (c .from .ensures));
       market = c .lower .ensures .market;
+      rows = c .lower .ensures .rows .same;
     }

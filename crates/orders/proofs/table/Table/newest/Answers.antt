@@ -1,10 +1,9 @@
-use mathlib.Core.Path.{_≡_, sym, ap, _∙_}
-use Prim.Native.Nat.{suc, _-_, _<_, _≤_}
+use mathlib.Core.Path.{sym, ap, _∙_}
+use Prim.Native.Nat.{_-_, _<_, _≤_}
 use native.Mathlib.Omega.{arith}
-use lib.ListN.{length, getD}
+use lib.ListN.{length}
 use Rattle.std.proofs.shelf.Lists.{nil-from-length}
 use Rattle.std.proofs.shelf.Tests.{ltb-true, ltb-false}
-use Rattle.std.specs.Of.Vec.{vec-items}
 use Rattle.orders.specs.declared.row.Row.{Row}
 use Rattle.orders.specs.Changes.{newest-number}
 use Rattle.orders.proofs.Joined.{newest-last}

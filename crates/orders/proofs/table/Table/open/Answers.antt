@@ -1,4 +1,3 @@
-use mathlib.Core.List.{[]}
 use mathlib.Core.Path.{refl, ap, _∙_}
 use Rattle.rules.specs.Market.{with-orders}
 use Rattle.rules.specs.Runs.{opened}
