@@ -8,11 +8,12 @@ use lib.ListN.{length}
 use Rattle.std.specs.declared.option.Option.the-variants.{Some, None}
 use Rattle.terms.specs.declared.kinds.Side.{Side}
 use Rattle.terms.specs.declared.kinds.Side.the-variants.{Buy, Sell}
-use Rattle.rules.specs.Market.{Order, Market, with-end, those}
+use Rattle.rules.specs.Market.{Order, Market, with-end, with-quote, those}
 use Rattle.rules.specs.Clock.{due, protected-on, end-period, end-periods, settle}
 use Rattle.rules.specs.Sweep.{sweep-each}
 use Rattle.rules.proofs.Lasting.{ends-keep}
-use Rattle.market.specs.declared.round.Round.the-variants.{PeriodEnded}
+use Rattle.rules.specs.Calls.{requoted}
+use Rattle.market.specs.declared.round.Round.the-variants.{PeriodEnded, QuoteChanged}
 use Rattle.market.specs.Rounds.{woken}
 use Rattle.market.proofs.EachSwept.{each-longer}
 
@@ -52,3 +53,7 @@ pub ends-over : (n t : ℕ) (m : Market) → n ≡ 0 → end-periods n t m ≡ m
 unfolding end-periods
 ends-over zero t m e = refl
 ends-over (suc n) t m e = absurd (omega arith)
+
+-- a new quote, from the steps of the code
+pub quoted-anew : (t bid offer : ℕ) (m after : Market) → after ≡ with-quote bid offer m → requoted t bid offer m ≡ sweep-each t (those (woken QuoteChanged) (after .orders)) after
+quoted-anew t bid offer m after set = ap (λ (z : Market). sweep-each t (those (woken QuoteChanged) (z .orders)) z) (sym set)

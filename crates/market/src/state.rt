@@ -3,6 +3,6 @@ use orders::table::Table;
 use tape::tapes::Tape;
 
 pub struct Market<T: Tape> {
-    pub(crate) table: Table,
-    pub(crate) tape: T,
+    pub table: Table,
+    pub tape: T,
 }

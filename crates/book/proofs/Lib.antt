@@ -1,0 +1,5 @@
+pub mod Alike
+pub mod Calling
+pub mod Kept
+pub mod Named
+pub mod Ties

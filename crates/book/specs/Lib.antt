@@ -1,0 +1,3 @@
+pub mod Books
+pub mod Carried
+pub mod Tied
