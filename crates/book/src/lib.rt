@@ -1,4 +1,6 @@
 // The book that runs.
+#![tactic(auto)]
+
 pub mod asking;
 pub mod cancelling;
 mod clock;

@@ -1,4 +1,6 @@
 // Answers a day file from standard input, line by line.
+#![tactic(auto)]
+
 mod input;
 mod options;
 mod registers;

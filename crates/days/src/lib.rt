@@ -1,4 +1,6 @@
 // Day files: lines of text, what they ask of a book, and what is answered.
+#![tactic(auto)]
+
 pub mod commands;
 pub mod desk;
 mod numbers;

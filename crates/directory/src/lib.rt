@@ -1,4 +1,6 @@
 // Whole identifier to entry number.
+#![tactic(auto)]
+
 pub mod directories;
 pub mod entries;
 pub mod hashed_directory;

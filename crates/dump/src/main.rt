@@ -1,4 +1,6 @@
 // Registers in hexadecimal on standard input, one a line: for each the orders that a reader finds, and its fault.
+#![tactic(auto)]
+
 mod hex;
 
 use register::listed::Listed;

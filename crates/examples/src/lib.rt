@@ -1,4 +1,6 @@
 // The worked examples together: one table, and one proof that the definitions give what is told.
+#![tactic(auto)]
+
 ghost use Rattle.std.specs.Prelude.{◌≡◌, length};
 ghost use Rattle.examples.specs.Table.{examples, ExamplesAsTold};
 

@@ -1,5 +1,7 @@
 // Runs the worked examples of the public filings, read from standard input, each on a new book, and compares what comes with
 // what is expected.
+#![tactic(auto)]
+
 mod examples;
 mod playing;
 mod report;

@@ -1,4 +1,6 @@
 // Registers loaded into a book and written from it.
+#![tactic(auto)]
+
 pub mod faults;
 pub mod load;
 mod orders;

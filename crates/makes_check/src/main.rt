@@ -1,4 +1,6 @@
 // Runs long schedules over both makes of the directory and of the tape, and compares their answers call by call.
+#![tactic(auto)]
+
 mod names;
 mod random;
 mod schedule;

@@ -1,4 +1,6 @@
 // The market: sweeps and protection periods, over the order table and any tape.
+#![tactic(auto)]
+
 pub mod entering;
 pub mod quoting;
 pub mod round;

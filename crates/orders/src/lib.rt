@@ -1,4 +1,6 @@
 // The order table: the rows of resting orders, and the scans over them.
+#![tactic(auto)]
+
 pub mod displays;
 pub mod finding;
 pub mod identifier;

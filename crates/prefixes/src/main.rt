@@ -1,4 +1,6 @@
 // Loads every prefix and every one-byte change of a stored register, each into a new book, and tells what became of them.
+#![tactic(auto)]
+
 mod stored;
 mod tally;
 mod trial;

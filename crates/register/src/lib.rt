@@ -1,4 +1,6 @@
 // The order register: orders as fields of bytes, one after another.
+#![tactic(auto)]
+
 pub mod examples;
 pub mod faults;
 mod fields;

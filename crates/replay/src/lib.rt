@@ -1,4 +1,6 @@
 // Whole days: calls as values, replayed on a book, and one list of calls against another.
+#![tactic(auto)]
+
 pub mod calls;
 pub mod carrying;
 pub mod playing;

@@ -1,2 +1,4 @@
 // An append-only log over memory lent by the caller, for any kind of record.
+#![tactic(auto)]
+
 pub mod log;

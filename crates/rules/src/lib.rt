@@ -1,5 +1,7 @@
 // The rule book: what a book does with each call, as definitions in specs/, and the laws that hold of them.
 // Each law stands in the contract of a function, mostly one that tells a number of the rule.
+#![tactic(auto)]
+
 ghost use Rattle.std.specs.Prelude.{◌≡◌, nat_le, nat_lt};
 ghost use Rattle.rules.specs.Limits.{round_lot, protection_period, most_resting, most_entries, fewest_left, last_moment};
 ghost use Rattle.rules.specs.Laws.{TicksChangeOnlyTheClock, SettlesAtOnce, TapeExplainsDiscretion, ReasonsHold};

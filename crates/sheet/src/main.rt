@@ -1,4 +1,6 @@
 // The morning sheet: the orders of a register, with the price each ranks at and the price it reaches to at a quote.
+#![tactic(auto)]
+
 mod prices;
 mod request;
 mod rows;

@@ -1,4 +1,6 @@
 // What was traded: a tape keeps the lines of the trades, oldest first.
+#![tactic(auto)]
+
 pub mod bytes;
 pub mod layout;
 pub mod line;

@@ -1,4 +1,6 @@
 // What an order says and where it stands: tickets, quotes, and the two prices that follow from them.
+#![tactic(auto)]
+
 pub mod codes;
 pub mod kinds;
 pub mod lawful;

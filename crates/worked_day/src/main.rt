@@ -1,4 +1,6 @@
 // One worked day, read from standard input, on each of the four pairs of makes; then entries until no more are accepted.
+#![tactic(auto)]
+
 mod day;
 mod makes;
 

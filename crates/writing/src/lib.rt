@@ -1,4 +1,6 @@
 // Orders written into a register, field by field, under a guard.
+#![tactic(auto)]
+
 mod begun;
 pub mod examples;
 pub mod fill;

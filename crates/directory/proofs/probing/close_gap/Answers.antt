@@ -9,12 +9,12 @@ use Rattle.directory.proofs.probing.close_gap.Goals.{then-steps-between, else-st
 pub loop-step-init : goal.loop-step-init
 loop-step-init c = walk_starts (vec_items c.args.places.now) c.args.gap c.requires
 
-pub returns-in-default : goal.returns-in-default
-returns-in-default c =
+pub returns-in_default : goal.returns-in_default
+returns-in_default c =
     let ps = vec_items c.loop-step.places in
     let place = (c.args.gap + c.loop-step.step) % 128 in
     let lt : place < length ps = omega (arith, c.loop-step.invariant.whole) in
-    let none : get_or ps place None ≡ None = get_or_default ps place None c.index.result.now lt ∙ sym c.index.ensures ∙ c.in-default.is in
+    let none : get_or ps place None ≡ None = get_or_default ps place None c.index.result.now lt ∙ sym c.index.ensures ∙ c.in_default.is in
     walk_ends (vec_items c.args.places.now) c.args.gap ps c.loop-step.hole c.loop-step.step place c.loop-step.invariant c.loop-step-test.true refl none
 
 -- what the two counts of steps say of the pair's own home

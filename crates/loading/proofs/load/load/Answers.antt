@@ -76,4 +76,4 @@ returns g c sound =
     let rest = c.loop-next.reader.rest.now in
     let left = c.next-order.new.self.rest.now in
     finished g.D.Directory g.T.Tape c.args.book.now c.args.slips.now c.args.time register c.loop-next.book c.loop-next.slips rest c.loop-next.loaded.entered c.loop-next.loaded.slips
-    (inv.2 sound) (nothing_came c.loop-next.reader.register.now register rest left inv.0 c.in-default.ensures.order)
+    (inv.2 sound) (nothing_came c.loop-next.reader.register.now register rest left inv.0 c.in_default.ensures.order)

@@ -11,7 +11,7 @@ use Rattle.loading.specs.Written.{listed_order, orders_listed}
 use Rattle.loading.proofs.OrdersWritten.{SoWritten, written_none, written_more, written_past, written_all, written_half, listed_from, next_listed, none_listed, book_written}
 use Rattle.loading.proofs.Tickets.{at_most, tickets_again}
 use Rattle.loading.proofs.write.write_book.Goals as goal
-use Rattle.loading.proofs.write.write_book.Goals.{in-Some+in-ok-write-order, in-default}
+use Rattle.loading.proofs.write.write_book.Goals.{in-Some+in_ok-write-order, in_default}
 
 pub loop-index-init : goal.loop-index-init
 loop-index-init g c = (search rules, λ sound. written_none (page_of c.new-writer.result) (orders_listed (book_of g.T.Tape c.args.book.now)) c.new-writer.ensures.reads_back)
@@ -26,7 +26,7 @@ loop-index-preserved g c =
     let p = page_of c.loop-index.writer in
     let inv = c.loop-index.invariant in
     elim c.match-resting-order.branch [
-      | in-Some+in-ok-write-order w ↦
+      | in-Some+in_ok-write-order w ↦
           let row = w.in-Some.row in
           let o = order_of w.as-bytes.result.now (terms_of row.terms) row.left in
           let rest = listed_from (i + 1) orders in
@@ -36,18 +36,18 @@ loop-index-preserved g c =
                 let left : listed_from i orders ≡ o ∷ rest = next_listed orders i (row_order row) (w.in-Some.ensures sound) ∙ ap (λ (x : Listed). x ∷ rest) (sym same) in
                 subst (λ (z : Writer). SoWritten start (page_of z) all rest) (sym w.writer-is)
                 (written_more start p all o rest (subst (λ z. SoWritten start p all z) left (inv.1 sound)) (page_of w.write-order.new.self) w.write-order.ensures.page w.write-order.ensures.reads_back
-                w.in-ok-write-order.ensures.outcome),
+                w.in_ok-write-order.ensures.outcome),
           )
-      | in-default w ↦ (
+      | in_default w ↦ (
         ap (λ (z : Writer). z.buffer.ghost_name) w.writer-is ∙ inv.0,
         λ sound.
             subst (λ (z : Writer). SoWritten start (page_of z) all (listed_from (i + 1) orders)) (sym w.writer-is)
-            (written_past start p all orders i (w.in-default.ensures sound) (inv.1 sound)),
+            (written_past start p all orders i (w.in_default.ensures sound) (inv.1 sound)),
       )
     ]
 
-pub returns-in-err-write-order : goal.returns-in-err-write-order
-returns-in-err-write-order g c sound =
+pub returns-in_err-write-order : goal.returns-in_err-write-order
+returns-in_err-write-order g c sound =
     let b = book_of g.T.Tape c.args.book.now in
     let all = orders_listed b in
     let orders = b.market.orders in
@@ -64,7 +64,7 @@ returns-in-err-write-order g c sound =
     let e = err_from_is_err_and c.from-residual.result c.from-residual.ensures.1 in
     let lent : c.write-order.new.self.buffer.ghost_name ≡ c.new-writer.result.buffer.ghost_name = c.write-order.ensures.lent ∙ c.loop-index.invariant.0 in
     rw (e.1, e.2) (book_written b c.args.buffer.now _ start q _ c.new-writer.ensures.page (search rules)
-    (written_half start p all o rest so_far q c.write-order.ensures.page c.write-order.ensures.reads_back _ c.in-err-write-order.ensures.outcome)
+    (written_half start p all o rest so_far q c.write-order.ensures.page c.write-order.ensures.reads_back _ c.in_err-write-order.ensures.outcome)
     (tickets_again g.D.Directory g.T.Tape c.args.book.now sound))
 
 pub returns : goal.returns

@@ -3,7 +3,7 @@ use Rattle.std.proofs.lemmas.List.{take_all}
 use Rattle.rules.specs.Questions.{latest_mark}
 use Rattle.questions.proofs.Latest.{latest_here, latest_before, line_there}
 use Rattle.questions.proofs.explaining.latest_mark.Goals as goal
-use Rattle.questions.proofs.explaining.latest_mark.Goals.{in-Some+else-marks, in-default}
+use Rattle.questions.proofs.explaining.latest_mark.Goals.{in-Some+else-marks, in_default}
 
 pub loop-place-init : goal.loop-place-init
 loop-place-init g c e =
@@ -22,7 +22,7 @@ loop-place-preserved g c e =
     elim c.match-read.branch [
       | in-Some+else-marks w ↦
           latest_before c.args.side ls c.loop-place.place w.in-Some.line w.in-Some.ensures w.if-marks.ensures ∙ c.loop-place.invariant e
-      | in-default w ↦ absurd (line_there ls c.loop-place.place c.loop-place-test.true (omega (arith, c.loop-place.auto.place)) w.in-default.ensures)
+      | in_default w ↦ absurd (line_there ls c.loop-place.place c.loop-place-test.true (omega (arith, c.loop-place.auto.place)) w.in_default.ensures)
     ]
 
 pub returns : goal.returns

@@ -9,13 +9,13 @@ use Rattle.questions.proofs.ranked.ranked_at.Goals as goal
 pub loop-init : goal.loop-init
 loop-init c = (refl, omega arith)
 
-pub returns-in-err-next : goal.returns-in-err-next
-returns-in-err-next c =
+pub returns-in_err-next : goal.returns-in_err-next
+returns-in_err-next c =
     let m = seen c.args.table.now in
     let os = ranking_of m c.args.side m.orders in
     let i = c.loop.counter in
     let up = ascends 0 (vec_items c.args.table.now.rows) c.args.table.now.ascending in
-    let none = next_place m c.args.side i (option_map row_order c.loop.row) None up c.loop.invariant.0 c.loop.invariant.1 c.in-err-next.ensures in
+    let none = next_place m c.args.side i (option_map row_order c.loop.row) None up c.loop.invariant.0 c.loop.invariant.1 c.in_err-next.ensures in
     ap (option_map row_order) c.from-residual.ensures ∙ past (i + 1) c.args.place os (omega arith) (omega arith) none
 
 pub loop-preserved : goal.loop-preserved
@@ -23,9 +23,9 @@ loop-preserved c =
     let m = seen c.args.table.now in
     let os = ranking_of m c.args.side m.orders in
     let i = c.loop.counter in
-    let next = row_order c.in-ok-next.next in
+    let next = row_order c.in_ok-next.next in
     let up = ascends 0 (vec_items c.args.table.now.rows) c.args.table.now.ascending in
-    let at = next_place m c.args.side i (option_map row_order c.loop.row) (Some next) up c.loop.invariant.0 c.loop.invariant.1 c.in-ok-next.ensures in
+    let at = next_place m c.args.side i (option_map row_order c.loop.row) (Some next) up c.loop.invariant.0 c.loop.invariant.1 c.in_ok-next.ensures in
     (at, within (i + 1) os next at)
 
 pub returns : goal.returns

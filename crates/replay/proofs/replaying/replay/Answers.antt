@@ -7,10 +7,10 @@ use Rattle.replay.proofs.replaying.replay.Goals as goal
 
 pub loop-call-init : goal.loop-call-init
 loop-call-init g c =
-    let made = c.in-ok-answers.ensures in (
+    let made = c.in_ok-answers.ensures in (
       search rules,
       search rules,
-      λ sound. followed_none g.D.Directory g.T.Tape c.args.book.now (vec_items c.in-ok-answers.answers) made.items sound,
+      λ sound. followed_none g.D.Directory g.T.Tape c.args.book.now (vec_items c.in_ok-answers.answers) made.items sound,
     )
 
 pub loop-call-preserved : goal.loop-call-preserved

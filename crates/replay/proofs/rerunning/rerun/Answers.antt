@@ -8,10 +8,10 @@ pub returns : goal.returns
 returns g c =
     let t = g.T.Tape in
     let u = g.U.Tape in
-    let p = c.in-ok-first.first in
-    let q = c.in-ok-second.second in
-    let first = c.in-ok-first.ensures in
-    let second = c.in-ok-second.ensures in
+    let p = c.in_ok-first.first in
+    let q = c.in_ok-second.second in
+    let first = c.in_ok-first.ensures in
+    let second = c.in_ok-second.ensures in
     record {
       first = first;
       second = second;

@@ -21,21 +21,21 @@ returns-then-not-lawful-identifier g c sound =
     early g.D.Directory t here call Identifier
     (call_unlawful (t.free here.market.tape) call (book_of t here) (sym c.lawful_identifier.ensures ∙ c.if-not-lawful-identifier.true)) sound
 
-pub returns-in-err-advance : goal.returns-in-err-advance
-returns-in-err-advance g c sound =
+pub returns-in_err-advance : goal.returns-in_err-advance
+returns-in_err-advance g c sound =
     let p = err_from_is_err_and c.from-residual.result c.from-residual.ensures.1 in
     let lawful = sym c.lawful_identifier.ensures ∙ c.if-not-lawful-identifier.false in
-    rw (p.1, p.2) (c.in-err-advance.ensures sound (cancel c.args.time c.args.id.now) refl lawful)
+    rw (p.1, p.2) (c.in_err-advance.ensures sound (cancel c.args.time c.args.id.now) refl lawful)
 
-pub returns-in-default : goal.returns-in-default
-returns-in-default g c sound =
+pub returns-in_default : goal.returns-in_default
+returns-in_default g c sound =
     let t = g.T.Tape in
     let time = c.args.time in
     let id = c.args.id.now in
     let mid = c.advance.new.self in
     let lawful = sym c.lawful_identifier.ensures ∙ c.if-not-lawful-identifier.false in
-    let brought = c.in-ok-advance.ensures sound in
-    let none = found_none id (vec_items mid.market.table.rows) brought.rests (sym (brought.tied.known id) ∙ sym c.in-default.ensures) in
+    let brought = c.in_ok-advance.ensures sound in
+    let none = found_none id (vec_items mid.market.table.rows) brought.rests (sym (brought.tied.known id) ∙ sym c.in_default.ensures) in
     declined g.D.Directory t c.args.self.now mid (cancel time id) NoSuchOrder sound brought lawful (cancel_none time id (book_of t mid) none)
 
 pub returns : goal.returns
@@ -45,7 +45,7 @@ returns g c sound =
     let id = c.args.id.now in
     let mid = c.advance.new.self in
     let lawful = sym c.lawful_identifier.ensures ∙ c.if-not-lawful-identifier.false in
-    let brought = c.in-ok-advance.ensures sound in
+    let brought = c.in_ok-advance.ensures sound in
     let m = market_of t mid.market in
     let found =
     found_some id (vec_items mid.market.table.rows) c.in-Some.number brought.rests mid.market.table.ascending (sym (brought.tied.known id) ∙ sym c.in-Some.ensures)

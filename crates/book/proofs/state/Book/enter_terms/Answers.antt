@@ -19,30 +19,30 @@ use Rattle.book.proofs.EntryTests.{entry_refused}
 use Rattle.book.proofs.Accepted.{counting, ready, has_place, accepted}
 use Rattle.book.proofs.state.Book.enter_terms.Goals as goal
 
-pub returns-in-default : goal.returns-in-default
-returns-in-default g c sound =
+pub returns-in_default : goal.returns-in_default
+returns-in_default g c sound =
     let t = g.T.Tape in
     let here = c.args.self.now in
     let call = entry c.args.time c.args.id.now (terms_of c.args.terms) in
-    early g.D.Directory t here call Identifier (call_unlawful (t.free here.market.tape) call (book_of t here) c.in-default.ensures) sound
+    early g.D.Directory t here call Identifier (call_unlawful (t.free here.market.tape) call (book_of t here) c.in_default.ensures) sound
 
-pub returns-in-err-advance : goal.returns-in-err-advance
-returns-in-err-advance g c sound =
+pub returns-in_err-advance : goal.returns-in_err-advance
+returns-in_err-advance g c sound =
     let p = err_from_is_err_and c.from-residual.result c.from-residual.ensures.1 in
-    rw (p.1, p.2) (c.in-err-advance.ensures sound (entry c.args.time c.args.id.now (terms_of c.args.terms)) refl c.in-Some.ensures.0)
+    rw (p.1, p.2) (c.in_err-advance.ensures sound (entry c.args.time c.args.id.now (terms_of c.args.terms)) refl c.in-Some.ensures.0)
 
-pub returns-in-err-number : goal.returns-in-err-number
-returns-in-err-number g c sound =
-    let p = err_from_is_err_and c.from-residual-in-err-number.result c.from-residual-in-err-number.ensures.1 in
+pub returns-in_err-number : goal.returns-in_err-number
+returns-in_err-number g c sound =
+    let p = err_from_is_err_and c.from-residual-in_err-number.result c.from-residual-in_err-number.ensures.1 in
     let t = g.T.Tape in
     let mid = c.advance.new.self in
     let id = c.args.id.now in
     let w = terms_of c.args.terms in
-    let brought = c.in-ok-advance.ensures sound in
-    let why = c.in-err-number.field-0.0 in
+    let brought = c.in_ok-advance.ensures sound in
+    let why = c.in_err-number.field-0.0 in
     rw (p.1, p.2)
     (declined g.D.Directory t c.args.self.now mid (entry c.args.time id w) why sound brought c.in-Some.ensures.0
-    (entry_refused c.args.time id w (book_of t mid) why (c.in-err-number.ensures brought.tied brought.rests)))
+    (entry_refused c.args.time id w (book_of t mid) why (c.in_err-number.ensures brought.tied brought.rests)))
 
 pub returns-in-Rest : goal.returns-in-Rest
 returns-in-Rest g c sound =
@@ -52,14 +52,14 @@ returns-in-Rest g c sound =
     let mid = c.advance.new.self in
     let time = c.args.time in
     let w = terms_of c.args.terms in
-    let k = c.in-ok-number.number in
+    let k = c.in_ok-number.number in
     let after = c.sweep-and-rest.new.self in
     let v = c.sweep-and-rest.result in
     let row : Row = record { identifier = c.in-Some.identifier; number = k; terms = c.args.terms; left = c.args.terms.shares } in
     let name : row_name row ≡ c.args.id.now = c.in-Some.ensures.1 in
     let lawful = ap lawful_identifier name ∙ c.in-Some.ensures.0 in
-    let brought = c.in-ok-advance.ensures sound in
-    let test = c.in-ok-number.ensures brought.tied brought.rests ∙ ap (λ id. entry_test id w (book_of t mid)) (sym name) in
+    let brought = c.in_ok-advance.ensures sound in
+    let test = c.in_ok-number.ensures brought.tied brought.rests ∙ ap (λ id. entry_test id w (book_of t mid)) (sym name) in
     let swept = swept_in time (row_order row) (market_of t mid.market) in
     let done =
     subst (λ f. Entered d t (counting k mid) after (rested f time k c.args.terms.shares swept) v) (sym c.in-Rest.is)
@@ -75,14 +75,14 @@ returns-in-ImmediateOrCancel g c sound =
     let mid = c.advance.new.self in
     let time = c.args.time in
     let w = terms_of c.args.terms in
-    let k = c.in-ok-number.number in
+    let k = c.in_ok-number.number in
     let after = c.sweep-and-lapse.new.self in
     let v = c.sweep-and-lapse.result in
     let row : Row = record { identifier = c.in-Some.identifier; number = k; terms = c.args.terms; left = c.args.terms.shares } in
     let name : row_name row ≡ c.args.id.now = c.in-Some.ensures.1 in
     let lawful = ap lawful_identifier name ∙ c.in-Some.ensures.0 in
-    let brought = c.in-ok-advance.ensures sound in
-    let test = c.in-ok-number.ensures brought.tied brought.rests ∙ ap (λ id. entry_test id w (book_of t mid)) (sym name) in
+    let brought = c.in_ok-advance.ensures sound in
+    let test = c.in_ok-number.ensures brought.tied brought.rests ∙ ap (λ id. entry_test id w (book_of t mid)) (sym name) in
     let swept = swept_in time (row_order row) (market_of t mid.market) in
     let done =
     subst (λ f. Entered d t (counting k mid) after (rested f time k c.args.terms.shares swept) v) (sym c.in-ImmediateOrCancel.is)

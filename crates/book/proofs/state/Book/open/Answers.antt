@@ -2,8 +2,8 @@ use Rattle.std.proofs.Common.{is_some, sym, refl, ap, ◌∙◌}
 use Rattle.book.proofs.Opened.{empty_tape, new_book}
 use Rattle.book.proofs.state.Book.open.Goals as goal
 
-pub returns-in-default : goal.returns-in-default
-returns-in-default g c =
+pub returns-in_default : goal.returns-in_default
+returns-in_default g c =
     record {
       same_directory = refl;
       same_tape = refl;

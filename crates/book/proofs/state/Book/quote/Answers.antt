@@ -7,10 +7,10 @@ use Rattle.book.proofs.Kept.{tied_kept}
 use Rattle.book.proofs.Calling.{carried_on}
 use Rattle.book.proofs.state.Book.quote.Goals as goal
 
-pub returns-in-err-advance : goal.returns-in-err-advance
-returns-in-err-advance g c sound =
+pub returns-in_err-advance : goal.returns-in_err-advance
+returns-in_err-advance g c sound =
     let p = err_from_is_err_and c.from-residual.result c.from-residual.ensures.1 in
-    rw (p.1, p.2) (c.in-err-advance.ensures sound (quote c.args.time c.args.quote.bid c.args.quote.offer) refl refl)
+    rw (p.1, p.2) (c.in_err-advance.ensures sound (quote c.args.time c.args.quote.bid c.args.quote.offer) refl refl)
 
 pub returns : goal.returns
 unfolding done_at
@@ -19,7 +19,7 @@ returns g c sound =
     let t = g.T.Tape in
     let mid = c.advance.new.self in
     let call = quote c.args.time c.args.quote.bid c.args.quote.offer in
-    let brought = c.in-ok-advance.ensures sound in
+    let brought = c.in_ok-advance.ensures sound in
     carried_on d t c.args.self.now mid c.tidy.new.self call quoted sound brought refl refl
     (same_book (c.tidy.ensures.market ∙ c.requote.ensures.market brought.day (brought.lines call refl refl)) (c.tidy.ensures.clock ∙ brought.clock) c.tidy.ensures.entries)
     (c.tidy.ensures.tied

@@ -13,17 +13,17 @@ use Rattle.book.proofs.Named.{found_none, found_some}
 use Rattle.book.proofs.Explains.{reasoned}
 use Rattle.book.proofs.state.Book.why.Goals as goal
 
-pub returns-in-default : goal.returns-in-default
-returns-in-default g c sound =
+pub returns-in_default : goal.returns-in_default
+returns-in_default g c sound =
     let id = c.args.id.now in
-    found_none id (vec_items c.args.self.now.market.table.rows) sound.rests (sym (sound.tied.known id) ∙ sym c.in-default.ensures)
+    found_none id (vec_items c.args.self.now.market.table.rows) sound.rests (sym (sound.tied.known id) ∙ sym c.in_default.ensures)
 
-pub returns-in-default-row : goal.returns-in-default-row
-returns-in-default-row g c sound =
+pub returns-in_default-row : goal.returns-in_default-row
+returns-in_default-row g c sound =
     let id = c.args.id.now in
     let table = c.args.self.now.market.table in
     let found = found_some id (vec_items table.rows) c.in-Some.number sound.rests table.ascending (sym (sound.tied.known id) ∙ sym c.in-Some.ensures) in
-    absurd (none_some (resting c.in-Some.number (orders_in (vec_items table.rows))) found.order (sym c.in-default-row.ensures) found.rests)
+    absurd (none_some (resting c.in-Some.number (orders_in (vec_items table.rows))) found.order (sym c.in_default-row.ensures) found.rests)
 
 pub returns : goal.returns
 unfolding ranked_in

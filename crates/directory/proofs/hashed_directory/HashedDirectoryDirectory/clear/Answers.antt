@@ -3,8 +3,8 @@ use Rattle.directory.specs.Entries.{distinct}
 use Rattle.directory.proofs.Tables.{chained_empty}
 use Rattle.directory.proofs.hashed_directory.HashedDirectoryDirectory.clear.Goals as goal
 
-pub invariant-of-self : goal.invariant-of-self
-invariant-of-self c =
+pub invariant_of-self : goal.invariant_of-self
+invariant_of-self c =
     let none = c.free-all.ensures.1 in (
       c.free-all.ensures.0,
       (

@@ -5,17 +5,17 @@ use Rattle.directory.proofs.Changes.{held_refused}
 use Rattle.directory.proofs.Tables.{found_number, chained_put, apart_put, count_put, put_here, put_others}
 use Rattle.directory.proofs.hashed_directory.HashedDirectoryDirectory.put.Goals as goal
 
-pub returns-in-default : goal.returns-in-default
-returns-in-default c =
+pub returns-in_default : goal.returns-in_default
+returns-in_default c =
     let self = c.args.self.now in
     let id = c.args.id.now in
     let whole : length (vec_items self.places) ≡ 128 = sym self.places.ok.0 ∙ self.whole in
     let lawful : lawful_identifier id ≡ true = sym c.lawful_identifier.ensures ∙ c.if-not-lawful-identifier.false in
-    let found = found_number (vec_items self.places) id c.in-default.field-0.0 c.in-default.field-0.1 whole self.apart c.in-default.ensures in
+    let found = found_number (vec_items self.places) id c.in_default.field-0.0 c.in_default.field-0.1 whole self.apart c.in_default.ensures in
     record { because = held_refused id (hashed_number self id) self.held lawful (ap is_some found); same = refl; same_count = refl }
 
-pub invariant-of-self : goal.invariant-of-self
-invariant-of-self c =
+pub invariant_of-self : goal.invariant_of-self
+invariant_of-self c =
     let self = c.args.self.now in
     let id = c.args.id.now in
     let ps = vec_items self.places in

@@ -19,11 +19,11 @@ one_less c =
     let whole : length ps ≡ 128 = sym self.places.ok.0 ∙ self.whole in
     count_removed ps (vec_items c.close-gap.new.places) c.args.id.now c.in-Ok.place c.in-Ok.number whole self.apart c.in-Ok.ensures c.close-gap.ensures ∙ sym self.counted
 
-pub overflow-sub-self : goal.overflow-sub-self
-overflow-sub-self c = let less = one_less c in omega arith
+pub overflow_sub-self : goal.overflow_sub-self
+overflow_sub-self c = let less = one_less c in omega arith
 
-pub invariant-of-self : goal.invariant-of-self
-invariant-of-self c =
+pub invariant_of-self : goal.invariant_of-self
+invariant_of-self c =
     let self = c.args.self.now in
     let less = one_less c in
     let is = c.close-gap.new.places in

@@ -17,8 +17,8 @@ returns-then-is-some c =
 pub entry-of-requires : goal.entry-of-requires
 entry-of-requires c = short_enough c.args.id.now (sym c.lawful_identifier.ensures ∙ c.if-not-lawful-identifier.false)
 
-pub invariant-of-self : goal.invariant-of-self
-invariant-of-self c =
+pub invariant_of-self : goal.invariant_of-self
+invariant_of-self c =
     let self = c.args.self.now in
     let es = vec_items self.rows in
     let e = c.entry-of.result in

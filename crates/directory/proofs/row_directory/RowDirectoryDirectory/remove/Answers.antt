@@ -6,8 +6,8 @@ use Rattle.directory.proofs.Changes.{pair_others}
 use Rattle.directory.proofs.Standing.{rows_split, standing_number}
 use Rattle.directory.proofs.row_directory.RowDirectoryDirectory.remove.Goals as goal
 
-pub invariant-of-self : goal.invariant-of-self
-invariant-of-self c =
+pub invariant_of-self : goal.invariant_of-self
+invariant_of-self c =
     let self = c.args.self.now in
     let es = vec_items self.rows in
     let i = c.in-Some.i in

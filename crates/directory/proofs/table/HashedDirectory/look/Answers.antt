@@ -6,15 +6,15 @@ use Rattle.directory.proofs.table.HashedDirectory.look.Goals as goal
 pub loop-step-init : goal.loop-step-init
 loop-step-init c = look_starts (vec_items c.args.self.now.places) c.args.id.now
 
-pub returns-in-default : goal.returns-in-default
-returns-in-default c =
+pub returns-in_default : goal.returns-in_default
+returns-in_default c =
     let self = c.args.self.now in
     let ps = vec_items self.places in
     let step = c.loop-step.step in
     let place = (c.home-place-home.result + step) % 128 in
     let whole : length ps ≡ 128 = sym self.places.ok.0 ∙ self.whole in
     let lt : place < length ps = omega arith in
-    let none : get_or ps place None ≡ None = get_or_default ps place None c.index.result.now lt ∙ sym c.index.ensures ∙ c.in-default.is in
+    let none : get_or ps place None ≡ None = get_or_default ps place None c.index.result.now lt ∙ sym c.index.ensures ∙ c.in_default.is in
     look_ends ps c.args.id.now step place c.loop-step.invariant c.loop-step-test.true (ap (λ (h : ℕ). (h + step) % 128) c.home-place-home.ensures.value) whole self.chained none
 
 pub returns-then-is-of : goal.returns-then-is-of

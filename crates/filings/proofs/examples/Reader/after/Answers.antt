@@ -9,9 +9,9 @@ marked text line rest mark after words first begins is = first ∙ ap (λ l. l +
 pub returns : goal.returns
 returns c =
     let text = c.args.self.now.rest.now in
-    let line = c.in-ok-line.line in
-    let rest = c.in-ok-line.rest in
-    let words = c.in-ok-words.words in
-    let begins = c.in-ok-words.ensures.cases in
-    let first = (split_parts 10 text (Some (line, rest)) c.in-ok-line.ensures.cases (omega arith)).0 in
+    let line = c.in_ok-line.line in
+    let rest = c.in_ok-line.rest in
+    let words = c.in_ok-words.words in
+    let begins = c.in_ok-words.ensures.cases in
+    let first = (split_parts 10 text (Some (line, rest)) c.in_ok-line.ensures.cases (omega arith)).0 in
     marked text line.now rest.now c.args.mark.now (drop begins.0 line.now) words.now first begins.1.1 begins.2

@@ -8,8 +8,8 @@ use Rattle.market.specs.Markets.{market_of, capacity_of}
 use Rattle.market.proofs.Settled.{settle_ends, end_free, ends_over}
 use Rattle.market.proofs.state.Market.settle.Goals as goal
 
-pub overflow-add-turns : goal.overflow-add-turns
-overflow-add-turns g c =
+pub overflow_add-turns : goal.overflow_add-turns
+overflow_add-turns g c =
     let rows = c.args.self.now.table.rows in
     omega (arith, c.len-resting-turns.ensures, resting_few (vec_items rows), c.args.self.now.table.few, rows.ok.0)
 
@@ -33,13 +33,13 @@ loop-turn-preserved g c =
           whole ∙ ap (end_periods left t) (sym (c.end_period.ensures.market early room)),
     )
 
-pub returns-in-default : goal.returns-in-default
-returns-in-default g c =
+pub returns-in_default : goal.returns-in_default
+returns-in_default g c =
     let e = settle_ends c.args.time (c.len-resting-turns.result + 2) (market_of g.T.Tape c.args.self.now) (ap (λ n. n + 2) c.len-resting-turns.ensures) in
     record {
       market = λ h k.
           sym (e ∙ c.loop-turn.invariant.2 h (subst (λ (m : Market). length m.tape ≤ capacity_of g.T.Tape c.args.self.now) e k)
-          ∙ ends_none _ c.args.time (market_of g.T.Tape c.loop-turn.self) (sym c.in-default.ensures));
+          ∙ ends_none _ c.args.time (market_of g.T.Tape c.loop-turn.self) (sym c.in_default.ensures));
       capacity = c.loop-turn.invariant.0;
       rows = c.loop-turn.invariant.1;
     }

@@ -27,28 +27,28 @@ loop-turn-preserved g c =
           (sym (c.line.ensures.market h (line_free c.args.time c.reach-price.result o left here _ (row_order c.in-Some.row) (row_order c.in-Some-partner-for.partner) (capacity_of g.T.Tape c.args.self.now) _ so k c.loop-turn.invariant.0))),
     )
 
-pub returns-in-default : goal.returns-in-default
-returns-in-default g c =
+pub returns-in_default : goal.returns-in_default
+returns-in_default g c =
     let o = row_order c.args.taker.now in
     let tape = g.T.Tape.lines c.loop-turn.self.tape in
     let e = sweep_lines (g.T.Tape.lines c.args.self.now.tape) c.args.self.now.table c.args.time o c.len-resting-turns.result c.reach-price.result c.len-resting-turns.ensures c.reach-price.ensures in
     record {
       market =
           λ h k. sym (e ∙ c.loop-turn.invariant.2 h (subst (λ (m : Market). length m.tape ≤ capacity_of g.T.Tape c.args.self.now) e k)
-          ∙ lines_gone c.args.time c.reach-price.result o _ (market_of g.T.Tape c.loop-turn.self) (sym c.in-default.ensures));
+          ∙ lines_gone c.args.time c.reach-price.result o _ (market_of g.T.Tape c.loop-turn.self) (sym c.in_default.ensures));
       capacity = c.loop-turn.invariant.0;
       rows = c.loop-turn.invariant.1;
     }
 
-pub returns-in-default-partner-for : goal.returns-in-default-partner-for
-returns-in-default-partner-for g c =
+pub returns-in_default-partner-for : goal.returns-in_default-partner-for
+returns-in_default-partner-for g c =
     let o = row_order c.args.taker.now in
     let tape = g.T.Tape.lines c.loop-turn.self.tape in
     let e = sweep_lines (g.T.Tape.lines c.args.self.now.tape) c.args.self.now.table c.args.time o c.len-resting-turns.result c.reach-price.result c.len-resting-turns.ensures c.reach-price.ensures in
     record {
       market =
           λ h k. sym (e ∙ c.loop-turn.invariant.2 h (subst (λ (m : Market). length m.tape ≤ capacity_of g.T.Tape c.args.self.now) e k)
-          ∙ lines_alone c.args.time c.reach-price.result o _ (market_of g.T.Tape c.loop-turn.self) (row_order c.in-Some.row) (sym c.in-Some.ensures) (sym (c.in-default-partner-for.ensures ∙ partner_still tape c.loop-turn.self.table o c.reach-price.result)));
+          ∙ lines_alone c.args.time c.reach-price.result o _ (market_of g.T.Tape c.loop-turn.self) (row_order c.in-Some.row) (sym c.in-Some.ensures) (sym (c.in_default-partner-for.ensures ∙ partner_still tape c.loop-turn.self.table o c.reach-price.result)));
       capacity = c.loop-turn.invariant.0;
       rows = c.loop-turn.invariant.1;
     }

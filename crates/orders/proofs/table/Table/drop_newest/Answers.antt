@@ -9,8 +9,8 @@ use Rattle.orders.specs.Seen.{market_with}
 use Rattle.orders.proofs.Dropped.{rising_front, newest_gone}
 use Rattle.orders.proofs.table.Table.drop_newest.Goals as goal
 
-pub invariant-of-self : goal.invariant-of-self
-invariant-of-self c =
+pub invariant_of-self : goal.invariant_of-self
+invariant_of-self c =
     let self = c.args.self.now in
     let up = rising_front 0 (vec_items c.pop.new.self) (option_to_list c.pop.result) (ap (rising 0) (sym c.pop.ensures.items) ∙ self.ascending) in
     (search rules, (search rules, (up, tt)))

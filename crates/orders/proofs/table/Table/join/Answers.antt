@@ -7,8 +7,8 @@ use Rattle.orders.specs.Changes.{newest_number}
 use Rattle.orders.proofs.Joined.{orders_in_append, orders_in_one, rising_push}
 use Rattle.orders.proofs.table.Table.join.Goals as goal
 
-pub invariant-of-self : goal.invariant-of-self
-invariant-of-self c =
+pub invariant_of-self : goal.invariant_of-self
+invariant_of-self c =
     let self = c.args.self.now in
     let rows = vec_items self.rows in
     let above : newest_number 0 rows < c.args.row.number = omega arith in

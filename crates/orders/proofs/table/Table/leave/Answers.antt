@@ -5,8 +5,8 @@ use Rattle.orders.specs.Seen.{market_with}
 use Rattle.orders.proofs.Changed.{without_at, without_by_number, absent, rising_set, only_shares, unchanged}
 use Rattle.orders.proofs.table.Table.leave.Goals as goal
 
-pub invariant-of-self : goal.invariant-of-self
-invariant-of-self c =
+pub invariant_of-self : goal.invariant_of-self
+invariant_of-self c =
     let self = c.args.self.now in
     (search rules, (search rules, (rising_set 0 (vec_items self.rows) c.in-Some.i c.index-mut-row.result.now 0 c.index-mut-row.ensures.value ∙ self.ascending, tt)))
 
@@ -24,12 +24,12 @@ returns-in-Some c =
       rows = only_shares c.args.number rows c.in-Some.i row 0 at is;
     }
 
-pub returns-in-default : goal.returns-in-default
-returns-in-default c =
+pub returns-in_default : goal.returns-in_default
+returns-in_default c =
     let self = c.args.self.now in
     let k = c.args.number in
     let same : without k (orders_in (vec_items self.rows)) ≡ orders_in (vec_items self.rows) =
-    absent k (without k) (without_by_number k) (orders_in (vec_items self.rows)) c.in-default.ensures
+    absent k (without k) (without_by_number k) (orders_in (vec_items self.rows)) c.in_default.ensures
     in
     record {
       orders = sym same;

@@ -5,8 +5,8 @@ use Rattle.orders.proofs.Found.{count_resting, count_spent, count_none, resting_
 use Rattle.orders.proofs.table.Table.len_resting.Goals as goal
 use Rattle.orders.proofs.table.Table.len_resting.Goals.{then-row-gt0, else-row-gt0}
 
-pub overflow-add-count : goal.overflow-add-count
-overflow-add-count c =
+pub overflow_add-count : goal.overflow_add-count
+overflow_add-count c =
     let rows = c.args.self.now.rows in
     let few : length (orders_in (vec_items rows)) ≤ length (vec_items rows) = resting_few (vec_items rows) in
     omega (arith, c.loop-row.invariant, rows.ok.0, c.args.self.now.few)

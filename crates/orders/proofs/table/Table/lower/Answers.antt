@@ -5,8 +5,8 @@ use Rattle.orders.specs.Seen.{market_with}
 use Rattle.orders.proofs.Changed.{lower_at, lower_by_number, absent, rising_set, only_shares, unchanged}
 use Rattle.orders.proofs.table.Table.lower.Goals as goal
 
-pub invariant-of-self : goal.invariant-of-self
-invariant-of-self c =
+pub invariant_of-self : goal.invariant_of-self
+invariant_of-self c =
     let self = c.args.self.now in (
       search rules,
       (
@@ -33,13 +33,13 @@ returns-in-Some c =
       rows = only_shares c.args.number rows c.in-Some.i row c.saturating-sub-row.result at is;
     }
 
-pub returns-in-default : goal.returns-in-default
-returns-in-default c =
+pub returns-in_default : goal.returns-in_default
+returns-in_default c =
     let self = c.args.self.now in
     let k = c.args.number in
     let n = c.args.shares in
     let same : lower k n (orders_in (vec_items self.rows)) ≡ orders_in (vec_items self.rows) =
-    absent k (lower k n) (lower_by_number k n) (orders_in (vec_items self.rows)) c.in-default.ensures
+    absent k (lower k n) (lower_by_number k n) (orders_in (vec_items self.rows)) c.in_default.ensures
     in
     record {
       orders = sym same;

@@ -7,6 +7,6 @@ use Rattle.orders.proofs.table.Table.open.Goals as goal
 
 pub returns : goal.returns
 returns c =
-    let empty = c.in-ok-rows.ensures.items in
+    let empty = c.in_ok-rows.ensures.items in
     let quote = c.args.quote in
     (empty, refl, ap (λ os. with_orders os (opened quote.bid quote.offer).market) (ap orders_in empty ∙ orders_in_none))

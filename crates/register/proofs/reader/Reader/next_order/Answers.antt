@@ -3,18 +3,18 @@ use Rattle.std.proofs.lemmas.Bool.{eqb-true}
 use Rattle.register.proofs.Tails.{tail_fits, tail_none, tail_trans, tail_read_order, stands_further, something_next, nothing_next}
 use Rattle.register.proofs.reader.Reader.next_order.Goals as goal
 
-pub overflow-sub-place : goal.overflow-sub-place
-overflow-sub-place c = tail_fits c.args.self.now.register.now c.args.self.now.rest.now c.args.self.now.end
+pub overflow_sub-place : goal.overflow_sub-place
+overflow_sub-place c = tail_fits c.args.self.now.register.now c.args.self.now.rest.now c.args.self.now.end
 
-pub invariant-of-self : goal.invariant-of-self
-invariant-of-self c = (
+pub invariant_of-self : goal.invariant_of-self
+invariant_of-self c = (
   tail_trans c.args.self.now.register.now c.args.self.now.rest.now c.in-Ok.rest.now c.args.self.now.end
       (tail_read_order _ c.args.self.now.rest.now _ c.in-Ok.ensures.order),
   tt,
 )
 
-pub invariant-of-self-in-Err : goal.invariant-of-self-in-Err
-invariant-of-self-in-Err c = (tail_none c.args.self.now.register.now, tt)
+pub invariant_of-self-in-Err : goal.invariant_of-self-in-Err
+invariant_of-self-in-Err c = (tail_none c.args.self.now.register.now, tt)
 
 pub returns-in-Ok : goal.returns-in-Ok
 returns-in-Ok c =

@@ -12,8 +12,8 @@ returns-then-place-eq0 g c =
       | then-place-eq0-via-else-place-eq0+then-place-len w ↦ sym (place_past held c.args.place (omega arith))
     ]
 
-pub offset-bounds-room-place : goal.offset-bounds-room-place
-offset-bounds-room-place g c = omega (arith, simp length-take at c.len.ensures)
+pub offset_bounds-room-place : goal.offset_bounds-room-place
+offset_bounds-room-place g c = omega (arith, simp length-take at c.len.ensures)
 
 pub bounds-room-place : goal.bounds-room-place
 bounds-room-place g c = omega (arith, simp length-take at c.len.ensures)
