@@ -4,7 +4,7 @@ use Rattle.directory.specs.Entries.{entry_id}
 use Rattle.directory.specs.Table.{Places, home_place, steps}
 use Rattle.directory.proofs.Gap.{Walking, walk_starts, walk_stays, walk_moves, walk_ends, walk_never_returns}
 use Rattle.directory.proofs.probing.close_gap.Goals as goal
-use Rattle.directory.proofs.probing.close_gap.Goals.{then-steps-between, else-steps-between}
+use Rattle.directory.proofs.probing.close_gap.Goals.{then-steps_between, else-steps_between}
 
 pub loop-step-init : goal.loop-step-init
 loop-step-init c = walk_starts (vec_items c.args.places.now) c.args.gap c.requires
@@ -36,17 +36,17 @@ loop-step-preserved c =
     let own = home_place (entry_id entry) in
     let lt : place < length ps = omega (arith, c.loop-step.invariant.whole) in
     let here : get_or ps place None ≡ Some entry = get_or_default ps place None c.index.result.now lt ∙ sym c.index.ensures ∙ c.in-Some.is in
-    elim c.if-steps-between.branch [
-      | then-steps-between w ↦
-          subst (λ (h : ℕ). Walking was gap (vec_items c.if-steps-between.places) h (step + 1)) (sym w.hole-is)
+    elim c.if-steps_between.branch [
+      | then-steps_between w ↦
+          subst (λ (h : ℕ). Walking was gap (vec_items c.if-steps_between.places) h (step + 1)) (sym w.hole-is)
           (subst (λ (qs : Places). Walking was gap qs place (step + 1)) (sym (ap vec_items w.places-is))
           (walk_moves was gap ps hole step place c.loop-step.invariant c.loop-step-test.true refl entry here
-          (at_home c.home-of-home.result own hole place c.steps-between.result c.steps-between-in-loop-step.result c.home-of-home.ensures.value c.steps-between.ensures c.steps-between-in-loop-step.ensures w.if-steps-between.true)))
-      | else-steps-between w ↦
-          subst (λ (h : ℕ). Walking was gap (vec_items c.if-steps-between.places) h (step + 1)) (sym w.hole-is)
+          (at_home c.home_of-home.result own hole place c.steps_between.result c.steps_between-in-loop-step.result c.home_of-home.ensures.value c.steps_between.ensures c.steps_between-in-loop-step.ensures w.if-steps_between.true)))
+      | else-steps_between w ↦
+          subst (λ (h : ℕ). Walking was gap (vec_items c.if-steps_between.places) h (step + 1)) (sym w.hole-is)
           (subst (λ (qs : Places). Walking was gap qs hole (step + 1)) (sym (ap vec_items w.places-is))
           (walk_stays was gap ps hole step place c.loop-step.invariant c.loop-step-test.true refl entry here
-          (not_past_home c.home-of-home.result own hole place c.steps-between.result c.steps-between-in-loop-step.result c.home-of-home.ensures.value c.steps-between.ensures c.steps-between-in-loop-step.ensures w.if-steps-between.false)))
+          (not_past_home c.home_of-home.result own hole place c.steps_between.result c.steps_between-in-loop-step.result c.home_of-home.ensures.value c.steps_between.ensures c.steps_between-in-loop-step.ensures w.if-steps_between.false)))
     ]
 
 pub returns : goal.returns

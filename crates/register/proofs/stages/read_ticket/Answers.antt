@@ -9,14 +9,14 @@ use Rattle.register.proofs.stages.read_ticket.Goals as goal
 pub returns-in_err-side : goal.returns-in_err-side
 returns-in_err-side c o h =
     let r0 = begun c.args.total c.args.start ticket_layout (record { order = o; rest = c.args.rest.now }) in
-    let p = err_from_is_err_and c.from-residual.result c.from-residual.ensures.1 in
+    let p = err_from_is_err_and c.from_residual.result c.from_residual.ensures.1 in
     rw (p.1, p.2) (four_stopped 2 (λ v. v) with_codes codes_of r0 _ c.in_err-side.ensures)
 
 pub returns-in_err-shares : goal.returns-in_err-shares
 returns-in_err-shares c o h =
     let r0 = begun c.args.total c.args.start ticket_layout (record { order = o; rest = c.args.rest.now }) in
     let r1 = four_further 2 (λ v. v) with_codes codes_of r0 _ c.in_ok-side.ensures in
-    let p = err_from_is_err_and c.from-residual-in_err-shares.result c.from-residual-in_err-shares.ensures.1 in
+    let p = err_from_is_err_and c.from_residual-in_err-shares.result c.from_residual-in_err-shares.ensures.1 in
     rw (p.1, p.2) (four_stopped 3 number_from with_shares shares_of r1 _ c.in_err-shares.ensures)
 
 pub returns-in_err-limit : goal.returns-in_err-limit
@@ -24,7 +24,7 @@ returns-in_err-limit c o h =
     let r0 = begun c.args.total c.args.start ticket_layout (record { order = o; rest = c.args.rest.now }) in
     let r1 = four_further 2 (λ v. v) with_codes codes_of r0 _ c.in_ok-side.ensures in
     let r2 = four_further 3 number_from with_shares shares_of r1 _ c.in_ok-shares.ensures in
-    let p = err_from_is_err_and c.from-residual-in_err-limit.result c.from-residual-in_err-limit.ensures.1 in
+    let p = err_from_is_err_and c.from_residual-in_err-limit.result c.from_residual-in_err-limit.ensures.1 in
     rw (p.1, p.2) (four_stopped 4 number_from with_limit limit_of r2 _ c.in_err-limit.ensures)
 
 pub returns-in_err-offset : goal.returns-in_err-offset
@@ -33,7 +33,7 @@ returns-in_err-offset c o h =
     let r1 = four_further 2 (λ v. v) with_codes codes_of r0 _ c.in_ok-side.ensures in
     let r2 = four_further 3 number_from with_shares shares_of r1 _ c.in_ok-shares.ensures in
     let r3 = four_further 4 number_from with_limit limit_of r2 _ c.in_ok-limit.ensures in
-    let p = err_from_is_err_and c.from-residual-in_err-offset.result c.from-residual-in_err-offset.ensures.1 in
+    let p = err_from_is_err_and c.from_residual-in_err-offset.result c.from_residual-in_err-offset.ensures.1 in
     rw (p.1, p.2) (stopped r3 (c.in_err-offset.ensures _ h))
 
 pub returns : goal.returns

@@ -19,12 +19,12 @@ returns-then-place-eq0 c =
       | then-place-eq0-via-then-place-eq0 w ↦ ap (line_in xs) (sym w.if-place-eq0.true)
       | then-place-eq0-via-else-place-eq0+then-place-bytes w ↦ sym (row_past xs c.args.place (omega arith))
     ] in
-    record { told = none; reads-back-what-was-written = back xs c.args.place None none }
+    record { told = none; reads_back_what_was_written = back xs c.args.place None none }
 
 pub returns : goal.returns
 returns c =
     let xs = c.args.bytes.now in
     let place = c.args.place in
     let pos : 0 < place = omega arith in
-    let here = c.read-line.ensures ∙ row_at xs place ((place - 1) * 43) ((place - 1) * 43 + 43 - (place - 1) * 43) pos (omega arith) (omega arith) in
-    record { told = here; reads-back-what-was-written = back xs place c.read-line.result here }
+    let here = c.read_line.ensures ∙ row_at xs place ((place - 1) * 43) ((place - 1) * 43 + 43 - (place - 1) * 43) pos (omega arith) (omega arith) in
+    record { told = here; reads_back_what_was_written = back xs place c.read_line.result here }

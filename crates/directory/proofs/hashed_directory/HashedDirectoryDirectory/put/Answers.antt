@@ -10,7 +10,7 @@ returns-in_default c =
     let self = c.args.self.now in
     let id = c.args.id.now in
     let whole : length (vec_items self.places) ≡ 128 = sym self.places.ok.0 ∙ self.whole in
-    let lawful : lawful_identifier id ≡ true = sym c.lawful_identifier.ensures ∙ c.if-not-lawful-identifier.false in
+    let lawful : lawful_identifier id ≡ true = sym c.lawful_identifier.ensures ∙ c.if-not-lawful_identifier.false in
     let found = found_number (vec_items self.places) id c.in_default.field-0.0 c.in_default.field-0.1 whole self.apart c.in_default.ensures in
     record { because = held_refused id (hashed_number self id) self.held lawful (ap is_some found); same = refl; same_count = refl }
 
@@ -19,10 +19,10 @@ invariant_of-self c =
     let self = c.args.self.now in
     let id = c.args.id.now in
     let ps = vec_items self.places in
-    let e = c.entry-of.result in
+    let e = c.entry_of.result in
     let p = c.in-Err.place in
     let free = c.in-Err.ensures in
-    let own = c.entry-of.ensures.0 in
+    let own = c.entry_of.ensures.0 in
     let whole : length ps ≡ 128 = sym self.places.ok.0 ∙ self.whole in (
       self.whole,
       (
@@ -42,16 +42,16 @@ returns c =
     let self = c.args.self.now in
     let id = c.args.id.now in
     let ps = vec_items self.places in
-    let e = c.entry-of.result in
+    let e = c.entry_of.result in
     let p = c.in-Err.place in
     let free = c.in-Err.ensures in
-    let own = c.entry-of.ensures.0 in
+    let own = c.entry_of.ensures.0 in
     let whole : length ps ≡ 128 = sym self.places.ok.0 ∙ self.whole in
     record {
-      lawful = sym c.lawful_identifier.ensures ∙ c.if-not-lawful-identifier.false;
+      lawful = sym c.lawful_identifier.ensures ∙ c.if-not-lawful_identifier.false;
       fresh = free.absent;
       room = omega arith;
       more = refl;
-      here = put_here ps id p e whole free own ∙ ap Some c.entry-of.ensures.1;
+      here = put_here ps id p e whole free own ∙ ap Some c.entry_of.ensures.1;
       others = put_others ps id p e whole free own;
     }

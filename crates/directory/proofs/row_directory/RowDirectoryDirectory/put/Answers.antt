@@ -6,41 +6,41 @@ use Rattle.directory.proofs.Distinct.{distinct_between}
 use Rattle.directory.proofs.Changes.{held_refused, not_held, short_enough, pair_here, pair_others}
 use Rattle.directory.proofs.row_directory.RowDirectoryDirectory.put.Goals as goal
 
-pub returns-then-is-some : goal.returns-then-is-some
-returns-then-is-some c =
+pub returns-then-is_some : goal.returns-then-is_some
+returns-then-is_some c =
     let self = c.args.self.now in
     let id = c.args.id.now in
-    let lawful : lawful_identifier id ≡ true = sym c.lawful_identifier.ensures ∙ c.if-not-lawful-identifier.false in
-    let held : is_some (row_number self id) ≡ true = ap is_some (sym c.find.ensures) ∙ sym c.is-some.ensures ∙ c.if-is-some.true in
+    let lawful : lawful_identifier id ≡ true = sym c.lawful_identifier.ensures ∙ c.if-not-lawful_identifier.false in
+    let held : is_some (row_number self id) ≡ true = ap is_some (sym c.find.ensures) ∙ sym c.is_some.ensures ∙ c.if-is_some.true in
     record { because = held_refused id (row_number self id) (row_count self) lawful held; same = refl; same_count = refl }
 
-pub entry-of-requires : goal.entry-of-requires
-entry-of-requires c = short_enough c.args.id.now (sym c.lawful_identifier.ensures ∙ c.if-not-lawful-identifier.false)
+pub entry_of-requires : goal.entry_of-requires
+entry_of-requires c = short_enough c.args.id.now (sym c.lawful_identifier.ensures ∙ c.if-not-lawful_identifier.false)
 
 pub invariant_of-self : goal.invariant_of-self
 invariant_of-self c =
     let self = c.args.self.now in
     let es = vec_items self.rows in
-    let e = c.entry-of.result in
-    let fresh : number_in es c.args.id.now ≡ None = not_held _ (ap is_some (sym c.find.ensures) ∙ sym c.is-some.ensures ∙ c.if-is-some.false) in
-    let none : number_in (es ++ []) (entry_id e) ≡ None = ap (λ xs. number_in xs (entry_id e)) (append-nil es) ∙ ap (number_in es) c.entry-of.ensures.0 ∙ fresh in
-    (search rules, (search rules, (ap distinct c.push-reserved.ensures.items ∙ distinct_between es [] e none (ap distinct (append-nil es) ∙ self.apart), tt)))
+    let e = c.entry_of.result in
+    let fresh : number_in es c.args.id.now ≡ None = not_held _ (ap is_some (sym c.find.ensures) ∙ sym c.is_some.ensures ∙ c.if-is_some.false) in
+    let none : number_in (es ++ []) (entry_id e) ≡ None = ap (λ xs. number_in xs (entry_id e)) (append-nil es) ∙ ap (number_in es) c.entry_of.ensures.0 ∙ fresh in
+    (search rules, (search rules, (ap distinct c.push_reserved.ensures.items ∙ distinct_between es [] e none (ap distinct (append-nil es) ∙ self.apart), tt)))
 
 pub returns : goal.returns
 returns c =
     let self = c.args.self.now in
     let es = vec_items self.rows in
-    let e = c.entry-of.result in
+    let e = c.entry_of.result in
     let id = c.args.id.now in
-    let items = c.push-reserved.ensures.items in
-    let own = c.entry-of.ensures.0 in
-    let fresh : number_in es id ≡ None = not_held _ (ap is_some (sym c.find.ensures) ∙ sym c.is-some.ensures ∙ c.if-is-some.false) in
+    let items = c.push_reserved.ensures.items in
+    let own = c.entry_of.ensures.0 in
+    let fresh : number_in es id ≡ None = not_held _ (ap is_some (sym c.find.ensures) ∙ sym c.is_some.ensures ∙ c.if-is_some.false) in
     let none : number_in (es ++ []) (entry_id e) ≡ None = ap (λ xs. number_in xs (entry_id e)) (append-nil es) ∙ ap (number_in es) own ∙ fresh in
     record {
-      lawful = sym c.lawful_identifier.ensures ∙ c.if-not-lawful-identifier.false;
+      lawful = sym c.lawful_identifier.ensures ∙ c.if-not-lawful_identifier.false;
       fresh = fresh;
       room = search rules;
       more = search rules;
-      here = ap (λ xs. number_in xs id) items ∙ ap (number_in (es ++ e ∷ [])) (sym own) ∙ pair_here es [] e none ∙ ap Some c.entry-of.ensures.1;
+      here = ap (λ xs. number_in xs id) items ∙ ap (number_in (es ++ e ∷ [])) (sym own) ∙ pair_here es [] e none ∙ ap Some c.entry_of.ensures.1;
       others = λ k ne. ap (λ xs. number_in xs k) items ∙ pair_others es [] e none k (λ h. ne (h ∙ own)) ∙ ap (λ xs. number_in xs k) (append-nil es);
     }

@@ -3,17 +3,17 @@ use Rattle.directory.specs.Entries.{number_in}
 use Rattle.directory.proofs.Standing.{later_row, this_row}
 use Rattle.directory.proofs.rows.RowDirectory.row_of.Goals as goal
 
-pub returns-then-is-of : goal.returns-then-is-of
-returns-then-is-of c =
+pub returns-then-is_of : goal.returns-then-is_of
+returns-then-is_of c =
     let rows = c.args.self.now.rows in
     let lt : c.loop-i.i < length (vec_items rows) = omega (arith, rows.ok.0, c.len-n.ensures) in
-    this_row (vec_items rows) c.loop-i.i c.index.result.now c.args.id.now lt c.index.ensures (sym c.is-of.ensures ∙ c.if-is-of.true)
+    this_row (vec_items rows) c.loop-i.i c.index.result.now c.args.id.now lt c.index.ensures (sym c.is_of.ensures ∙ c.if-is_of.true)
 
 pub loop-i-preserved : goal.loop-i-preserved
 loop-i-preserved c =
     let rows = c.args.self.now.rows in
     let lt : c.loop-i.i < length (vec_items rows) = omega (arith, rows.ok.0, c.len-n.ensures) in
-    later_row (vec_items rows) c.loop-i.i c.index.result.now c.args.id.now lt c.index.ensures (sym c.is-of.ensures ∙ c.if-is-of.false) c.loop-i.invariant
+    later_row (vec_items rows) c.loop-i.i c.index.result.now c.args.id.now lt c.index.ensures (sym c.is_of.ensures ∙ c.if-is_of.false) c.loop-i.invariant
 
 pub returns : goal.returns
 returns c =

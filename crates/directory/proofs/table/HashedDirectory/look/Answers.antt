@@ -11,33 +11,33 @@ returns-in_default c =
     let self = c.args.self.now in
     let ps = vec_items self.places in
     let step = c.loop-step.step in
-    let place = (c.home-place-home.result + step) % 128 in
+    let place = (c.home_place-home.result + step) % 128 in
     let whole : length ps ≡ 128 = sym self.places.ok.0 ∙ self.whole in
     let lt : place < length ps = omega arith in
     let none : get_or ps place None ≡ None = get_or_default ps place None c.index.result.now lt ∙ sym c.index.ensures ∙ c.in_default.is in
-    look_ends ps c.args.id.now step place c.loop-step.invariant c.loop-step-test.true (ap (λ (h : ℕ). (h + step) % 128) c.home-place-home.ensures.value) whole self.chained none
+    look_ends ps c.args.id.now step place c.loop-step.invariant c.loop-step-test.true (ap (λ (h : ℕ). (h + step) % 128) c.home_place-home.ensures.value) whole self.chained none
 
-pub returns-then-is-of : goal.returns-then-is-of
-returns-then-is-of c =
+pub returns-then-is_of : goal.returns-then-is_of
+returns-then-is_of c =
     let self = c.args.self.now in
     let ps = vec_items self.places in
     let step = c.loop-step.step in
-    let place = (c.home-place-home.result + step) % 128 in
+    let place = (c.home_place-home.result + step) % 128 in
     let whole : length ps ≡ 128 = sym self.places.ok.0 ∙ self.whole in
     let lt : place < length ps = omega arith in
     let here : get_or ps place None ≡ Some c.in-Some.entry = get_or_default ps place None c.index.result.now lt ∙ sym c.index.ensures ∙ c.in-Some.is in
-    look_finds ps c.args.id.now step place c.loop-step.invariant c.loop-step-test.true (ap (λ (h : ℕ). (h + step) % 128) c.home-place-home.ensures.value) c.in-Some.entry here (sym c.is-of.ensures ∙ c.if-is-of.true)
+    look_finds ps c.args.id.now step place c.loop-step.invariant c.loop-step-test.true (ap (λ (h : ℕ). (h + step) % 128) c.home_place-home.ensures.value) c.in-Some.entry here (sym c.is_of.ensures ∙ c.if-is_of.true)
 
 pub loop-step-preserved : goal.loop-step-preserved
 loop-step-preserved c =
     let self = c.args.self.now in
     let ps = vec_items self.places in
     let step = c.loop-step.step in
-    let place = (c.home-place-home.result + step) % 128 in
+    let place = (c.home_place-home.result + step) % 128 in
     let whole : length ps ≡ 128 = sym self.places.ok.0 ∙ self.whole in
     let lt : place < length ps = omega arith in
     let here : get_or ps place None ≡ Some c.in-Some.entry = get_or_default ps place None c.index.result.now lt ∙ sym c.index.ensures ∙ c.in-Some.is in
-    look_goes_on ps c.args.id.now step place c.loop-step.invariant c.loop-step-test.true (ap (λ (h : ℕ). (h + step) % 128) c.home-place-home.ensures.value) c.in-Some.entry here (sym c.is-of.ensures ∙ c.if-is-of.false)
+    look_goes_on ps c.args.id.now step place c.loop-step.invariant c.loop-step-test.true (ap (λ (h : ℕ). (h + step) % 128) c.home_place-home.ensures.value) c.in-Some.entry here (sym c.is_of.ensures ∙ c.if-is_of.false)
 
 pub unreachable-requires : goal.unreachable-requires
 unreachable-requires c =

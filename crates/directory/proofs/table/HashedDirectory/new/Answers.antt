@@ -5,8 +5,8 @@ use Rattle.directory.proofs.Tables.{chained_empty}
 use Rattle.directory.proofs.table.HashedDirectory.new.Goals as goal
 
 -- every place is free
-empty : (c : goal.In-ok-places) → entries_in (vec_items c.in_ok-places.places) ≡ []
-empty c = ap entries_in (c.in_ok-places.ensures.items-if-clones-equal (λ y q. search rules))
+empty : (c : goal.In_ok-places) → entries_in (vec_items c.in_ok-places.places) ≡ []
+empty c = ap entries_in (c.in_ok-places.ensures.items_if_clones_equal (λ y q. search rules))
 
 pub invariant_of-result : goal.invariant_of-result
 invariant_of-result c =

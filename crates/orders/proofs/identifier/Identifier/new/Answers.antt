@@ -3,5 +3,5 @@ use Rattle.orders.proofs.identifier.Identifier.new.Goals as goal
 
 pub returns : goal.returns
 returns c =
-    let copied = c.copy-from-slice.ensures.after in
-    (omega arith, take_at c.copy-from-slice.new.self _ _ (ap length copied) ∙ copied)
+    let copied = c.copy_from_slice.ensures.after in
+    (omega arith, take_at c.copy_from_slice.new.self _ _ (ap length copied) ∙ copied)

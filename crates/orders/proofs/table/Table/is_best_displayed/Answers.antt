@@ -9,13 +9,13 @@ use Rattle.orders.proofs.table.Table.is_best_displayed.Goals as goal
 
 pub loop-row-preserved : goal.loop-row-preserved
 loop-row-preserved c =
-    scan_more (unbeaten (seen c.args.self.now) c.args.side c.args.price) true c.as-slice-rows.result.now c.loop-row.row-index c.row-item.result _ _
-    c.loop-row-test.true c.row-item.is c.loop-row.invariant c.unbeaten-by-best.ensures
+    scan_more (unbeaten (seen c.args.self.now) c.args.side c.args.price) true c.as_slice-rows.result.now c.loop-row.row-index c.row-item.result _ _
+    c.loop-row-test.true c.row-item.is c.loop-row.invariant c.unbeaten_by-best.ensures
 
 pub returns : goal.returns
 unfolding best_displayed
 returns c =
     c.loop-row.invariant
     ∙ ap (fold (resting_step (unbeaten (seen c.args.self.now) c.args.side c.args.price)) true)
-    (take_all c.loop-row.row-index c.as-slice-rows.result.now c.loop-row-test.false ∙ c.as-slice-rows.ensures.value)
+    (take_all c.loop-row.row-index c.as_slice-rows.result.now c.loop-row-test.false ∙ c.as_slice-rows.ensures.value)
     ∙ scanned (unbeaten (seen c.args.self.now) c.args.side c.args.price) true _

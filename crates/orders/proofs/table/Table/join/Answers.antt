@@ -12,17 +12,17 @@ invariant_of-self c =
     let self = c.args.self.now in
     let rows = vec_items self.rows in
     let above : newest_number 0 rows < c.args.row.number = omega arith in
-    (search rules, (search rules, (ap (rising 0) c.push-reserved.ensures.items ∙ rising_push 0 rows c.args.row self.ascending above, tt)))
+    (search rules, (search rules, (ap (rising 0) c.push_reserved.ensures.items ∙ rising_push 0 rows c.args.row self.ascending above, tt)))
 
 pub returns : goal.returns
 returns c =
     let self = c.args.self.now in
     let rows = vec_items self.rows in
     let row = c.args.row in
-    let items = c.push-reserved.ensures.items in
+    let items = c.push_reserved.ensures.items in
     let above : newest_number 0 rows < row.number = omega arith in
     let room : vec_len self.rows < 65 = omega arith in
-    let after : 0 < row.left → orders_in (vec_items c.push-reserved.new.self) ≡ orders_in rows ++ row_order row ∷ [] = λ some.
+    let after : 0 < row.left → orders_in (vec_items c.push_reserved.new.self) ≡ orders_in rows ++ row_order row ∷ [] = λ some.
     ap orders_in items ∙ orders_in_append rows (row ∷ []) ∙ ap (λ os. orders_in rows ++ os) (orders_in_one row (lt-ltb 0 row.left some))
     in
     record {

@@ -8,15 +8,15 @@ use Rattle.orders.proofs.table.Table.leave.Goals as goal
 pub invariant_of-self : goal.invariant_of-self
 invariant_of-self c =
     let self = c.args.self.now in
-    (search rules, (search rules, (rising_set 0 (vec_items self.rows) c.in-Some.i c.index-mut-row.result.now 0 c.index-mut-row.ensures.value ∙ self.ascending, tt)))
+    (search rules, (search rules, (rising_set 0 (vec_items self.rows) c.in-Some.i c.index_mut-row.result.now 0 c.index_mut-row.ensures.value ∙ self.ascending, tt)))
 
 pub returns-in-Some : goal.returns-in-Some
 returns-in-Some c =
     let self = c.args.self.now in
     let rows = vec_items self.rows in
-    let row = c.index-mut-row.result.now in
+    let row = c.index_mut-row.result.now in
     let at = c.in-Some.ensures in
-    let is = c.index-mut-row.ensures.value in
+    let is = c.index_mut-row.ensures.value in
     let after = without_at c.args.number rows c.in-Some.i row self.ascending at is in
     record {
       orders = after;

@@ -12,7 +12,7 @@ invariant_of-self c =
       (
         search rules,
         (
-          rising_set 0 (vec_items self.rows) c.in-Some.i c.index-mut-row.result.now c.saturating-sub-row.result c.index-mut-row.ensures.value
+          rising_set 0 (vec_items self.rows) c.in-Some.i c.index_mut-row.result.now c.saturating_sub-row.result c.index_mut-row.ensures.value
               ∙ self.ascending,
           tt,
         ),
@@ -23,14 +23,14 @@ pub returns-in-Some : goal.returns-in-Some
 returns-in-Some c =
     let self = c.args.self.now in
     let rows = vec_items self.rows in
-    let row = c.index-mut-row.result.now in
+    let row = c.index_mut-row.result.now in
     let at = c.in-Some.ensures in
-    let is = c.index-mut-row.ensures.value in
-    let after = lower_at c.args.number c.args.shares rows c.in-Some.i row c.saturating-sub-row.result self.ascending at is c.saturating-sub-row.ensures in
+    let is = c.index_mut-row.ensures.value in
+    let after = lower_at c.args.number c.args.shares rows c.in-Some.i row c.saturating_sub-row.result self.ascending at is c.saturating_sub-row.ensures in
     record {
       orders = after;
       market = λ tape. ap (λ os. with_orders os (market_with tape self)) after;
-      rows = only_shares c.args.number rows c.in-Some.i row c.saturating-sub-row.result at is;
+      rows = only_shares c.args.number rows c.in-Some.i row c.saturating_sub-row.result at is;
     }
 
 pub returns-in_default : goal.returns-in_default

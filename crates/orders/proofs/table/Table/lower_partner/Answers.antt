@@ -9,10 +9,10 @@ pub returns : goal.returns
 returns c =
     record {
       depletes =
-          c.all-three.ensures
+          c.all_three.ensures
           ∙ depletes_is (seen c.args.self.now) (seen c.lower.new.self) (row_order c.args.partner.now)
           (lower c.args.partner.now.number c.args.shares (seen c.args.self.now).orders) _ _ _ c.ranked-ranked.result c.displayed_shares.result
-          (c.lower.ensures.market []) c.ranked-ranked.ensures c.is-displayed.ensures c.is-best-displayed-best.ensures c.displayed_shares.ensures
+          (c.lower.ensures.market []) c.ranked-ranked.ensures c.is_displayed.ensures c.is_best_displayed-best.ensures c.displayed_shares.ensures
           (ap (ltb c.displayed_shares.result) c.from.ensures);
       market = c.lower.ensures.market;
       rows = c.lower.ensures.rows.same;

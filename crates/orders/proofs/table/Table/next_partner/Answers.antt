@@ -8,7 +8,7 @@ use Rattle.orders.proofs.table.Table.next_partner.Goals as goal
 
 pub loop-row-preserved : goal.loop-row-preserved
 loop-row-preserved c =
-    scan_more (better_of (seen c.args.self.now) c.args.side c.args.price) None c.as-slice-rows.result.now c.loop-row.row-index c.row-item.result _ _
+    scan_more (better_of (seen c.args.self.now) c.args.side c.args.price) None c.as_slice-rows.result.now c.loop-row.row-index c.row-item.result _ _
     c.loop-row-test.true c.row-item.is c.loop-row.invariant c.better-best.ensures
 
 pub returns : goal.returns
@@ -16,5 +16,5 @@ unfolding next_partner
 returns c =
     c.loop-row.invariant
     ∙ ap (fold (resting_step (better_of (seen c.args.self.now) c.args.side c.args.price)) None)
-    (take_all c.loop-row.row-index c.as-slice-rows.result.now c.loop-row-test.false ∙ c.as-slice-rows.ensures.value)
+    (take_all c.loop-row.row-index c.as_slice-rows.result.now c.loop-row-test.false ∙ c.as_slice-rows.ensures.value)
     ∙ scanned (better_of (seen c.args.self.now) c.args.side c.args.price) None _

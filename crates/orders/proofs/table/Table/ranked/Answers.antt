@@ -3,4 +3,4 @@ use Rattle.orders.proofs.table.Table.ranked.Goals as goal
 
 pub returns : goal.returns
 unfolding ranked_in
-returns c = c.ranked-price.ensures
+returns c = c.ranked_price.ensures

@@ -17,17 +17,17 @@ returns c =
             partner = c.args.partner.now.number;
             taker = c.args.taker.now.number;
             shares = c.min-shares.result;
-            price = c.line-price-line-price.result;
-            mark = c.protect-if-mark.result;
+            price = c.line_price-line_price.result;
+            mark = c.protect_if-mark.result;
           }
           in
           let longer : List Line = tape ++ (line ∷ []) in
-          c.protect-if-mark.ensures.market h longer
-          ∙ ap (protected_if c.lower-partner-depletes.result c.args.time c.args.partner.now.terms.side)
+          c.protect_if-mark.ensures.market h longer
+          ∙ ap (protected_if c.lower_partner-depletes.result c.args.time c.args.partner.now.terms.side)
           (c.lower.ensures.market longer
-          ∙ ap (λ (z : Market). with_orders (lower c.args.taker.now.number c.min-shares.result z.orders) z) (c.lower-partner-depletes.ensures.market longer))
+          ∙ ap (λ (z : Market). with_orders (lower c.args.taker.now.number c.min-shares.result z.orders) z) (c.lower_partner-depletes.ensures.market longer))
           ∙ trade_is c.args.time c.args.price (row_order c.args.taker.now) (row_order c.args.partner.now) (seen c.args.self.now) tape
-          c.lower-partner-depletes.result c.min-shares.result c.line-price-line-price.result c.protect-if-mark.result
-          c.min-shares.ensures c.lower-partner-depletes.ensures.depletes c.line-price-line-price.ensures c.protect-if-mark.ensures.mark;
-      rows = c.protect-if-mark.ensures.rows ∙ c.lower.ensures.rows.same ∙ c.lower-partner-depletes.ensures.rows;
+          c.lower_partner-depletes.result c.min-shares.result c.line_price-line_price.result c.protect_if-mark.result
+          c.min-shares.ensures c.lower_partner-depletes.ensures.depletes c.line_price-line_price.ensures c.protect_if-mark.ensures.mark;
+      rows = c.protect_if-mark.ensures.rows ∙ c.lower.ensures.rows.same ∙ c.lower_partner-depletes.ensures.rows;
     }

@@ -28,7 +28,7 @@ returns-in-Ok c =
           (refl, refl, stands_further c.args.self.now.register.now c.args.self.now.rest.now c.in-Ok.identifier.now 3 c.args.self.now.end c.in-Ok.ensures.part.0);
     }
 
-pub returns-then-is-empty : goal.returns-then-is-empty
-returns-then-is-empty c =
-    let none = nothing_next (length c.args.self.now.register.now) c.args.self.now.rest.now (eqb-true _ 0 (sym c.if-is-empty.ensures)) in
+pub returns-then-is_empty : goal.returns-then-is_empty
+returns-then-is_empty c =
+    let none = nothing_next (length c.args.self.now.register.now) c.args.self.now.rest.now (eqb-true _ 0 (sym c.if-is_empty.ensures)) in
     record { order = none.0; register = refl; shorter = tt; places = none.1 }

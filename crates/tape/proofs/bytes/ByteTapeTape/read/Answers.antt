@@ -18,4 +18,4 @@ returns c =
     let self = c.args.self.now in
     let pos : 0 < c.args.place = omega arith in
     let within : c.args.place ≤ byte_count self = omega (arith, c.count.ensures) in
-    ap Some c.line-at.ensures ∙ lines_place self.bytes.now (byte_count self) c.args.place pos within
+    ap Some c.line_at.ensures ∙ lines_place self.bytes.now (byte_count self) c.args.place pos within

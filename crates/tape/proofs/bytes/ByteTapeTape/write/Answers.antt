@@ -7,11 +7,11 @@ pub returns : goal.returns
 returns c =
     let self = c.args.self.now in
     let xs = self.bytes.now in
-    let ys = c.put-line.new.bytes in
+    let ys = c.put_line.new.bytes in
     let n = self.used in
     let line = c.args.line in
     let room = c.if-self.false in
-    let is = c.put-line.ensures in
+    let is = c.put_line.ensures in
     let w : InWidth line = search rules in
     record {
       line = (tape_lines_more xs ys n line room is w, tape_free_less xs ys n line room is);
