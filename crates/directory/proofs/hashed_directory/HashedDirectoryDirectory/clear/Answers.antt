@@ -5,16 +5,11 @@ use Rattle.directory.proofs.hashed_directory.HashedDirectoryDirectory.clear.Goal
 
 pub invariant_of-self : goal.invariant_of-self
 invariant_of-self c =
-    let none = c.free_all.ensures.1 in (
-      c.free_all.ensures.0,
-      (
-        sym (ap length none),
-        (
-          omega arith,
-          (
-            ap distinct none,
-            (chained_empty (vec_items c.free_all.new.places) none, tt),
-          ),
-        ),
-      ),
-    )
+    let none = c.free_all.ensures.1 in
+    record {
+      whole = c.free_all.ensures.0;
+      counted = sym (ap length none);
+      few = omega arith;
+      apart = ap distinct none;
+      chained = chained_empty (vec_items c.free_all.new.places) none;
+    }

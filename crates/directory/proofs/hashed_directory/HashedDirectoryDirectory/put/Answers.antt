@@ -23,19 +23,14 @@ invariant_of-self c =
     let p = c.in-Err.place in
     let free = c.in-Err.ensures in
     let own = c.entry_of.ensures.0 in
-    let whole : length ps ≡ 128 = sym self.places.ok.0 ∙ self.whole in (
-      self.whole,
-      (
-        ap (λ n. n + 1) self.counted ∙ sym (count_put ps id p e whole free own),
-        (
-          omega arith,
-          (
-            apart_put ps id p e whole free own self.apart,
-            (chained_put ps id p e whole self.chained free own, tt),
-          ),
-        ),
-      ),
-    )
+    let whole : length ps ≡ 128 = sym self.places.ok.0 ∙ self.whole in
+    record {
+      whole = self.whole;
+      counted = ap (λ n. n + 1) self.counted ∙ sym (count_put ps id p e whole free own);
+      few = omega arith;
+      apart = apart_put ps id p e whole free own self.apart;
+      chained = chained_put ps id p e whole self.chained free own;
+    }
 
 pub returns : goal.returns
 returns c =

@@ -29,7 +29,7 @@ invariant_of-self c =
     let is = c.close_gap.new.places in
     let closed = c.close_gap.ensures in
     let whole : vec_len is ≡ 128 = is.ok.0 ∙ closed.whole in
-    (whole, (omega arith, (omega (arith, self.few), (closed.apart, (closed.chained, tt)))))
+    record { whole = whole; counted = omega arith; few = omega (arith, self.few); apart = closed.apart; chained = closed.chained }
 
 pub returns : goal.returns
 returns c =

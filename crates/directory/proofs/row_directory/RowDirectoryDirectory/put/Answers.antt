@@ -24,7 +24,7 @@ invariant_of-self c =
     let e = c.entry_of.result in
     let fresh : number_in es c.args.id.now ≡ None = not_held _ (ap is_some (sym c.find.ensures) ∙ sym c.is_some.ensures ∙ c.if-is_some.false) in
     let none : number_in (es ++ []) (entry_id e) ≡ None = ap (λ xs. number_in xs (entry_id e)) (append-nil es) ∙ ap (number_in es) c.entry_of.ensures.0 ∙ fresh in
-    (search rules, (search rules, (ap distinct c.push_reserved.ensures.items ∙ distinct_between es [] e none (ap distinct (append-nil es) ∙ self.apart), tt)))
+    record { roomy = search rules; few = search rules; apart = ap distinct c.push_reserved.ensures.items ∙ distinct_between es [] e none (ap distinct (append-nil es) ∙ self.apart) }
 
 pub returns : goal.returns
 returns c =

@@ -13,7 +13,7 @@ invariant_of-self c =
     let i = c.in-Some.i in
     let split = rows_split es i c.remove-entry.result c.in-Some.ensures.within in
     let rest = distinct_without (take i es) (drop (suc i) es) (get_or es i c.remove-entry.result) (ap distinct (sym split) ∙ self.apart) in
-    (search rules, (search rules, (ap distinct c.remove-entry.ensures.items ∙ rest.1, tt)))
+    record { roomy = search rules; few = search rules; apart = ap distinct c.remove-entry.ensures.items ∙ rest.1 }
 
 pub returns-in-Some : goal.returns-in-Some
 returns-in-Some c =

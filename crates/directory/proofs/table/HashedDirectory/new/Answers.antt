@@ -10,16 +10,11 @@ empty c = ap entries_in (c.in_ok-places.ensures.items_if_clones_equal (λ y q. s
 
 pub invariant_of-result : goal.invariant_of-result
 invariant_of-result c =
-    let none = empty c in (
-      c.in_ok-places.ensures.len,
-      (
-        sym (ap length none),
-        (
-          omega arith,
-          (
-            ap distinct none,
-            (chained_empty (vec_items c.in_ok-places.places) none, tt),
-          ),
-        ),
-      ),
-    )
+    let none = empty c in
+    record {
+      whole = c.in_ok-places.ensures.len;
+      counted = sym (ap length none);
+      few = omega arith;
+      apart = ap distinct none;
+      chained = chained_empty (vec_items c.in_ok-places.places) none;
+    }

@@ -7,14 +7,14 @@ pub overflow_sub-place : goal.overflow_sub-place
 overflow_sub-place c = tail_fits c.args.self.now.register.now c.args.self.now.rest.now c.args.self.now.end
 
 pub invariant_of-self : goal.invariant_of-self
-invariant_of-self c = (
-  tail_trans c.args.self.now.register.now c.args.self.now.rest.now c.in-Ok.rest.now c.args.self.now.end
-      (tail_read_order _ c.args.self.now.rest.now _ c.in-Ok.ensures.order),
-  tt,
-)
+invariant_of-self c = record {
+  end =
+      tail_trans c.args.self.now.register.now c.args.self.now.rest.now c.in-Ok.rest.now c.args.self.now.end
+      (tail_read_order _ c.args.self.now.rest.now _ c.in-Ok.ensures.order);
+}
 
 pub invariant_of-self-in-Err : goal.invariant_of-self-in-Err
-invariant_of-self-in-Err c = (tail_none c.args.self.now.register.now, tt)
+invariant_of-self-in-Err c = record { end = tail_none c.args.self.now.register.now }
 
 pub returns-in-Ok : goal.returns-in-Ok
 returns-in-Ok c =
