@@ -104,7 +104,7 @@ impl Tally {
 
 // Written against the trait alone: what is put is found, with any make.
 pub fn put_then_find<D: Directory>(directory: &mut D, id: &[u8], entry: u32) -> Option<u32>
-    ensures { put_refusal id.now (number directory.old id.now) (count directory.old) ≡ None → result ≡ Some entry }
+    ensures { put_refusal id.now (D.number directory.old id.now) (D.count directory.old) ≡ None → result ≡ Some entry }
 {
     match directory.put(id, entry) {
         Ok(()) => directory.find(id),

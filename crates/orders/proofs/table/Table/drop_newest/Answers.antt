@@ -13,7 +13,7 @@ pub invariant_of-self : goal.invariant_of-self
 invariant_of-self c =
     let self = c.args.self.now in
     let up = rising_front 0 (vec_items c.pop.new.self) (option_to_list c.pop.result) (ap (rising 0) (sym c.pop.ensures.items) ∙ self.ascending) in
-    (search rules, (search rules, (up, tt)))
+    record { room = search rules; few = search rules; ascending = up }
 
 pub returns : goal.returns
 returns c =

@@ -12,7 +12,7 @@ invariant_of-self c =
     let self = c.args.self.now in
     let rows = vec_items self.rows in
     let above : newest_number 0 rows < c.args.row.number = omega arith in
-    (search rules, (search rules, (ap (rising 0) c.push_reserved.ensures.items ∙ rising_push 0 rows c.args.row self.ascending above, tt)))
+    record { room = search rules; few = search rules; ascending = ap (rising 0) c.push_reserved.ensures.items ∙ rising_push 0 rows c.args.row self.ascending above }
 
 pub returns : goal.returns
 returns c =

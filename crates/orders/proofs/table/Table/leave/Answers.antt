@@ -8,7 +8,7 @@ use Rattle.orders.proofs.table.Table.leave.Goals as goal
 pub invariant_of-self : goal.invariant_of-self
 invariant_of-self c =
     let self = c.args.self.now in
-    (search rules, (search rules, (rising_set 0 (vec_items self.rows) c.in-Some.i c.index_mut-row.result.now 0 c.index_mut-row.ensures.value ∙ self.ascending, tt)))
+    record { room = search rules; few = search rules; ascending = rising_set 0 (vec_items self.rows) c.in-Some.i c.index_mut-row.result.now 0 c.index_mut-row.ensures.value ∙ self.ascending }
 
 pub returns-in-Some : goal.returns-in-Some
 returns-in-Some c =

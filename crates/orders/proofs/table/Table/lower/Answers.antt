@@ -7,17 +7,14 @@ use Rattle.orders.proofs.table.Table.lower.Goals as goal
 
 pub invariant_of-self : goal.invariant_of-self
 invariant_of-self c =
-    let self = c.args.self.now in (
-      search rules,
-      (
-        search rules,
-        (
+    let self = c.args.self.now in
+    record {
+      room = search rules;
+      few = search rules;
+      ascending =
           rising_set 0 (vec_items self.rows) c.in-Some.i c.index_mut-row.result.now c.saturating_sub-row.result c.index_mut-row.ensures.value
-              ∙ self.ascending,
-          tt,
-        ),
-      ),
-    )
+          ∙ self.ascending;
+    }
 
 pub returns-in-Some : goal.returns-in-Some
 returns-in-Some c =

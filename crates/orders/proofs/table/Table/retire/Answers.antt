@@ -10,7 +10,7 @@ pub invariant_of-self : goal.invariant_of-self
 invariant_of-self c =
     let self = c.args.self.now in
     let up = retired_rising (vec_items self.rows) c.in_ok-i.i c.remove-row.result c.in_ok-i.ensures c.remove-row.ensures.value self.ascending in
-    (search rules, (search rules, (ap (rising 0) c.remove-row.ensures.items ∙ up, tt)))
+    record { room = search rules; few = search rules; ascending = ap (rising 0) c.remove-row.ensures.items ∙ up }
 
 pub returns : goal.returns
 returns c =
