@@ -79,10 +79,10 @@ impl<'a> Writer<'a> {
 
     // Writes orders one after another, up to the first that does not fit, and tells how many bytes are written.
     pub fn write_all<K: KeepsOrder>(&mut self, orders: &[K]) -> Result<usize, NoRoom>
-        ensures page { page_of self.new ≡ with_orders (page_of self.old) (map listed orders.now) }
-        ensures outcome { result ≡ mark_if (orders_fit (room (page_of self.old)) (map listed orders.now)) (page_of self.new).mark }
+        ensures page { page_of self.new ≡ with_orders (page_of self.old) (map K.listed orders.now) }
+        ensures outcome { result ≡ mark_if (orders_fit (room (page_of self.old)) (map K.listed orders.now)) (page_of self.new).mark }
         ensures lent { self.new.buffer.ghost_name ≡ self.old.buffer.ghost_name }
-        ensures reads_back { (os : List Listed) → Holds (page_of self.old) os → Holds (page_of self.new) (os ++ whole_orders (room (page_of self.old)) (map listed orders.now)) }
+        ensures reads_back { (os : List Listed) → Holds (page_of self.old) os → Holds (page_of self.new) (os ++ whole_orders (room (page_of self.old)) (map K.listed orders.now)) }
     {
         for order in orders {
             self.write_kept(order)?;
@@ -91,10 +91,10 @@ impl<'a> Writer<'a> {
     }
 
     fn write_kept<K: KeepsOrder>(&mut self, order: &K) -> Result<(), NoRoom>
-        ensures page { page_of self.new ≡ with_order (page_of self.old) (listed order.now) }
-        ensures outcome { result ≡ done_if (order_fits (room (page_of self.old)) (listed order.now)) (page_of self.old).mark }
+        ensures page { page_of self.new ≡ with_order (page_of self.old) (K.listed order.now) }
+        ensures outcome { result ≡ done_if (order_fits (room (page_of self.old)) (K.listed order.now)) (page_of self.old).mark }
         ensures lent { self.new.buffer.ghost_name ≡ self.old.buffer.ghost_name }
-        ensures reads_back { (os : List Listed) → Holds (page_of self.old) os → Holds (page_of self.new) (os ++ whole_orders (room (page_of self.old)) (listed order.now ∷ [])) }
+        ensures reads_back { (os : List Listed) → Holds (page_of self.old) os → Holds (page_of self.new) (os ++ whole_orders (room (page_of self.old)) (K.listed order.now ∷ [])) }
     {
         let terms = order.terms();
         self.write_order(order.identifier(), &terms, order.left())

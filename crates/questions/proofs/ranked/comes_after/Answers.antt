@@ -8,4 +8,4 @@ use Rattle.questions.proofs.ranked.comes_after.Goals as goal
 pub returns-in-Some : goal.returns-in-Some
 returns-in-Some c =
     after_told (seen c.args.table.now) c.args.side (option_map row_order c.args.told) (row_order c.in-Some.other) c.args.row.now c.ranks_before.result
-    (ap (option_map row_order) c.in-Some.is) c.if-not-rests-on.ensures c.ranks_before.ensures
+    (ap (option_map row_order) c.in-Some.is) c.if-not-rests_on.ensures c.ranks_before.ensures

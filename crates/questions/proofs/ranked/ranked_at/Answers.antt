@@ -16,7 +16,7 @@ returns-in_err-next c =
     let i = c.loop.counter in
     let up = ascends 0 (vec_items c.args.table.now.rows) c.args.table.now.ascending in
     let none = next_place m c.args.side i (option_map row_order c.loop.row) None up c.loop.invariant.0 c.loop.invariant.1 c.in_err-next.ensures in
-    ap (option_map row_order) c.from-residual.ensures ∙ past (i + 1) c.args.place os (omega arith) (omega arith) none
+    ap (option_map row_order) c.from_residual.ensures ∙ past (i + 1) c.args.place os (omega arith) (omega arith) none
 
 pub loop-preserved : goal.loop-preserved
 loop-preserved c =

@@ -17,5 +17,5 @@ returns c =
             | then-terms-ne0 w ↦ size_with o c.if-terms-ne0.offset (not_zero terms.offset w.if-terms-ne0.true) w.offset-is
             | else-terms-ne0 w ↦ size_without o c.if-terms-ne0.offset (zero_is terms.offset terms.offset_lawful w.if-terms-ne0.false) w.offset-is
           ];
-      writing-gives-the-register-again = λ register orders bytes reads. writes_back (length register) orders register bytes reads;
+      writing_gives_the_register_again = λ register orders bytes reads. writes_back (length register) orders register bytes reads;
     }

@@ -21,7 +21,7 @@ returns-in_err-put c =
     let o : Listed = order_of c.args.identifier.now (terms_of c.args.terms.now) c.args.left in
     let r0 = begun was m c.new-begun.result.fill.now.mark (order_fields o) (cc) in
     let s = stopped r0 c.args.identifier.now refl _ c.put.ensures.page _ c.in_err-put.ensures.outcome in
-    let p = err_from_is_err_and c.from-residual.result c.from-residual.ensures.1 in
+    let p = err_from_is_err_and c.from_residual.result c.from_residual.ensures.1 in
     rw (p.1, p.2) (record {
       page = refused_page was c.put.new.buffer m o _ s (search rules);
       outcome = refused_answer _ _ _ _ _ c.in_err-put.ensures.outcome s.0 (ap (λ (f : Fill). f.mark) c.new-begun.ensures.2);
@@ -36,7 +36,7 @@ returns-in_err-put-2 c =
     let r0 = begun was m c.new-begun.result.fill.now.mark (order_fields o) (cc) in
     let r1 = further r0 c.args.identifier.now refl _ c.put.ensures.page c.in_ok-put.ensures.outcome in
     let s = stopped r1 c.codes.result c.codes.ensures _ c.put-2.ensures.page _ c.in_err-put-2.ensures.outcome in
-    let p = err_from_is_err_and c.from-residual-in_err-put-2.result c.from-residual-in_err-put-2.ensures.1 in
+    let p = err_from_is_err_and c.from_residual-in_err-put-2.result c.from_residual-in_err-put-2.ensures.1 in
     rw (p.1, p.2) (record {
       page = refused_page was c.put-2.new.buffer m o _ s (search rules);
       outcome = refused_answer _ _ _ _ _ c.in_err-put-2.ensures.outcome s.0 (ap (λ (f : Fill). f.mark) (c.put.ensures.guard.1 ∙ c.new-begun.ensures.2));
@@ -51,8 +51,8 @@ returns-in_err-put-3 c =
     let r0 = begun was m c.new-begun.result.fill.now.mark (order_fields o) (cc) in
     let r1 = further r0 c.args.identifier.now refl _ c.put.ensures.page c.in_ok-put.ensures.outcome in
     let r2 = further r1 c.codes.result c.codes.ensures _ c.put-2.ensures.page c.in_ok-put-2.ensures.outcome in
-    let s = stopped r2 c.to-be-bytes.result c.to-be-bytes.ensures _ c.put-3.ensures.page _ c.in_err-put-3.ensures.outcome in
-    let p = err_from_is_err_and c.from-residual-in_err-put-3.result c.from-residual-in_err-put-3.ensures.1 in
+    let s = stopped r2 c.to_be_bytes.result c.to_be_bytes.ensures _ c.put-3.ensures.page _ c.in_err-put-3.ensures.outcome in
+    let p = err_from_is_err_and c.from_residual-in_err-put-3.result c.from_residual-in_err-put-3.ensures.1 in
     rw (p.1, p.2) (record {
       page = refused_page was c.put-3.new.buffer m o _ s (search rules);
       outcome = refused_answer _ _ _ _ _ c.in_err-put-3.ensures.outcome s.0 (ap (λ (f : Fill). f.mark) (c.put-2.ensures.guard.1 ∙ (c.put.ensures.guard.1 ∙ c.new-begun.ensures.2)));
@@ -67,9 +67,9 @@ returns-in_err-put-4 c =
     let r0 = begun was m c.new-begun.result.fill.now.mark (order_fields o) (cc) in
     let r1 = further r0 c.args.identifier.now refl _ c.put.ensures.page c.in_ok-put.ensures.outcome in
     let r2 = further r1 c.codes.result c.codes.ensures _ c.put-2.ensures.page c.in_ok-put-2.ensures.outcome in
-    let r3 = further r2 c.to-be-bytes.result c.to-be-bytes.ensures _ c.put-3.ensures.page c.in_ok-put-3.ensures.outcome in
-    let s = stopped r3 c.to-be-bytes-2.result c.to-be-bytes-2.ensures _ c.put-4.ensures.page _ c.in_err-put-4.ensures.outcome in
-    let p = err_from_is_err_and c.from-residual-in_err-put-4.result c.from-residual-in_err-put-4.ensures.1 in
+    let r3 = further r2 c.to_be_bytes.result c.to_be_bytes.ensures _ c.put-3.ensures.page c.in_ok-put-3.ensures.outcome in
+    let s = stopped r3 c.to_be_bytes-2.result c.to_be_bytes-2.ensures _ c.put-4.ensures.page _ c.in_err-put-4.ensures.outcome in
+    let p = err_from_is_err_and c.from_residual-in_err-put-4.result c.from_residual-in_err-put-4.ensures.1 in
     rw (p.1, p.2) (record {
       page = refused_page was c.put-4.new.buffer m o _ s (search rules);
       outcome = refused_answer _ _ _ _ _ c.in_err-put-4.ensures.outcome s.0 (ap (λ (f : Fill). f.mark) (c.put-3.ensures.guard.1 ∙ (c.put-2.ensures.guard.1 ∙ (c.put.ensures.guard.1 ∙ c.new-begun.ensures.2))));
@@ -84,10 +84,10 @@ returns-in_err-put-5 c =
     let r0 = begun was m c.new-begun.result.fill.now.mark (order_fields o) (cc) in
     let r1 = further r0 c.args.identifier.now refl _ c.put.ensures.page c.in_ok-put.ensures.outcome in
     let r2 = further r1 c.codes.result c.codes.ensures _ c.put-2.ensures.page c.in_ok-put-2.ensures.outcome in
-    let r3 = further r2 c.to-be-bytes.result c.to-be-bytes.ensures _ c.put-3.ensures.page c.in_ok-put-3.ensures.outcome in
-    let r4 = further r3 c.to-be-bytes-2.result c.to-be-bytes-2.ensures _ c.put-4.ensures.page c.in_ok-put-4.ensures.outcome in
-    let s = stopped (reworded r4 (offset_there o (not_zero c.args.terms.now.offset c.if-terms-ne0.true))) c.offset-bytes.result c.offset-bytes.ensures _ c.put-then-terms-ne0.ensures.page _ c.in_err-put-5.ensures.outcome in
-    let p = err_from_is_err_and c.from-residual-in_err-put-5.result c.from-residual-in_err-put-5.ensures.1 in
+    let r3 = further r2 c.to_be_bytes.result c.to_be_bytes.ensures _ c.put-3.ensures.page c.in_ok-put-3.ensures.outcome in
+    let r4 = further r3 c.to_be_bytes-2.result c.to_be_bytes-2.ensures _ c.put-4.ensures.page c.in_ok-put-4.ensures.outcome in
+    let s = stopped (reworded r4 (offset_there o (not_zero c.args.terms.now.offset c.if-terms-ne0.true))) c.offset_bytes.result c.offset_bytes.ensures _ c.put-then-terms-ne0.ensures.page _ c.in_err-put-5.ensures.outcome in
+    let p = err_from_is_err_and c.from_residual-in_err-put-5.result c.from_residual-in_err-put-5.ensures.1 in
     rw (p.1, p.2) (record {
       page = refused_page was c.put-then-terms-ne0.new.buffer m o _ s (search rules);
       outcome = refused_answer _ _ _ _ _ c.in_err-put-5.ensures.outcome s.0 (ap (λ (f : Fill). f.mark) (c.put-4.ensures.guard.1 ∙ (c.put-3.ensures.guard.1 ∙ (c.put-2.ensures.guard.1 ∙ (c.put.ensures.guard.1 ∙ c.new-begun.ensures.2)))));
@@ -102,13 +102,13 @@ returns c =
     let r0 = begun was m c.new-begun.result.fill.now.mark (order_fields o) (cc) in
     let r1 = further r0 c.args.identifier.now refl _ c.put.ensures.page c.in_ok-put.ensures.outcome in
     let r2 = further r1 c.codes.result c.codes.ensures _ c.put-2.ensures.page c.in_ok-put-2.ensures.outcome in
-    let r3 = further r2 c.to-be-bytes.result c.to-be-bytes.ensures _ c.put-3.ensures.page c.in_ok-put-3.ensures.outcome in
-    let r4 = further r3 c.to-be-bytes-2.result c.to-be-bytes-2.ensures _ c.put-4.ensures.page c.in_ok-put-4.ensures.outcome in
+    let r3 = further r2 c.to_be_bytes.result c.to_be_bytes.ensures _ c.put-3.ensures.page c.in_ok-put-3.ensures.outcome in
+    let r4 = further r3 c.to_be_bytes-2.result c.to_be_bytes-2.ensures _ c.put-4.ensures.page c.in_ok-put-4.ensures.outcome in
     let whole : (order_fits (length was - m) o ≡ true) × (c.if-terms-ne0.buffer ≡ put_at was m (order_bytes o)) × (c.if-terms-ne0.begun.fill.now.mark ≡ m + length (order_bytes o)) =
     elim c.if-terms-ne0.branch [
       | then-terms-ne0+in_ok-put-5 w ↦
           let there = reworded r4 (offset_there o (not_zero c.args.terms.now.offset w.if-terms-ne0.true)) in
-          let r5 = further there w.offset-bytes.result w.offset-bytes.ensures _ w.put-then-terms-ne0.ensures.page w.in_ok-put-5.ensures.outcome in
+          let r5 = further there w.offset_bytes.result w.offset_bytes.ensures _ w.put-then-terms-ne0.ensures.page w.in_ok-put-5.ensures.outcome in
           let f = finished r5 in (f.0, w.buffer-is ∙ f.1, ap (λ (b : Begun). b.fill.now.mark) w.begun-is ∙ f.2)
       | else-terms-ne0 w ↦
           let absent = reworded r4 (offset_absent o (zero_is c.args.terms.now.offset c.args.terms.now.offset_lawful w.if-terms-ne0.false)) in

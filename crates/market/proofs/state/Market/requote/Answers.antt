@@ -9,9 +9,9 @@ use Rattle.market.proofs.state.Market.requote.Goals as goal
 pub returns : goal.returns
 returns g c =
     let lines = g.T.Tape.lines c.args.self.now.tape in
-    let p = quoted_anew c.args.time c.args.quote.bid c.args.quote.offer (market_of g.T.Tape c.args.self.now) (market_with lines c.set-quote.new.self) (c.set-quote.ensures.market lines) in
+    let p = quoted_anew c.args.time c.args.quote.bid c.args.quote.offer (market_of g.T.Tape c.args.self.now) (market_with lines c.set_quote.new.self) (c.set_quote.ensures.market lines) in
     record {
       market = λ h k. c.sweep_each.ensures.market h (subst (λ (m : Market). length m.tape ≤ capacity_of g.T.Tape c.args.self.now) p k) ∙ sym p;
       capacity = c.sweep_each.ensures.capacity;
-      rows = c.sweep_each.ensures.rows ∙ ap (λ v. map (with_left 0) (vec_items v)) c.set-quote.ensures.rows;
+      rows = c.sweep_each.ensures.rows ∙ ap (λ v. map (with_left 0) (vec_items v)) c.set_quote.ensures.rows;
     }

@@ -11,14 +11,14 @@ use Rattle.market.proofs.state.Market.settle.Goals as goal
 pub overflow_add-turns : goal.overflow_add-turns
 overflow_add-turns g c =
     let rows = c.args.self.now.table.rows in
-    omega (arith, c.len-resting-turns.ensures, resting_few (vec_items rows), c.args.self.now.table.few, rows.ok.0)
+    omega (arith, c.len_resting-turns.ensures, resting_few (vec_items rows), c.args.self.now.table.few, rows.ok.0)
 
 pub loop-turn-preserved : goal.loop-turn-preserved
 loop-turn-preserved g c =
     let here = market_of g.T.Tape c.loop-turn.self in
     let t = c.args.time in
-    let left : ℕ = (c.len-resting-turns.result + 2) - (c.loop-turn.turn + 1) in
-    let turn : (c.len-resting-turns.result + 2) - c.loop-turn.turn ≡ suc left = omega (arith, c.loop-turn-test.true) in
+    let left : ℕ = (c.len_resting-turns.result + 2) - (c.loop-turn.turn + 1) in
+    let turn : (c.len_resting-turns.result + 2) - c.loop-turn.turn ≡ suc left = omega (arith, c.loop-turn-test.true) in
     let due = sym c.in-Some.ensures in
     let go = ap (λ n. end_periods n t here) turn ∙ ends_some left t here (c.in-Some.side, c.in-Some.end) due in (
       c.end_period.ensures.capacity ∙ c.loop-turn.invariant.0,
@@ -35,7 +35,7 @@ loop-turn-preserved g c =
 
 pub returns-in_default : goal.returns-in_default
 returns-in_default g c =
-    let e = settle_ends c.args.time (c.len-resting-turns.result + 2) (market_of g.T.Tape c.args.self.now) (ap (λ n. n + 2) c.len-resting-turns.ensures) in
+    let e = settle_ends c.args.time (c.len_resting-turns.result + 2) (market_of g.T.Tape c.args.self.now) (ap (λ n. n + 2) c.len_resting-turns.ensures) in
     record {
       market = λ h k.
           sym (e ∙ c.loop-turn.invariant.2 h (subst (λ (m : Market). length m.tape ≤ capacity_of g.T.Tape c.args.self.now) e k)
@@ -46,7 +46,7 @@ returns-in_default g c =
 
 pub returns : goal.returns
 returns g c =
-    let e = settle_ends c.args.time (c.len-resting-turns.result + 2) (market_of g.T.Tape c.args.self.now) (ap (λ n. n + 2) c.len-resting-turns.ensures) in
+    let e = settle_ends c.args.time (c.len_resting-turns.result + 2) (market_of g.T.Tape c.args.self.now) (ap (λ n. n + 2) c.len_resting-turns.ensures) in
     record {
       market = λ h k.
           sym (e ∙ c.loop-turn.invariant.2 h (subst (λ (m : Market). length m.tape ≤ capacity_of g.T.Tape c.args.self.now) e k)

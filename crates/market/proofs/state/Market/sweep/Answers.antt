@@ -11,12 +11,12 @@ pub loop-turn-preserved : goal.loop-turn-preserved
 loop-turn-preserved g c =
     let o = row_order c.args.taker.now in
     let here = market_of g.T.Tape c.loop-turn.self in
-    let left : ℕ = c.len-resting-turns.result - (c.loop-turn.turn + 1) in
-    let turn : c.len-resting-turns.result - c.loop-turn.turn ≡ suc left = omega (arith, c.loop-turn-test.true) in
-    let partner = sym (c.in-Some-partner-for.ensures ∙ partner_still (g.T.Tape.lines c.loop-turn.self.tape) c.loop-turn.self.table o c.reach-price.result) in
+    let left : ℕ = c.len_resting-turns.result - (c.loop-turn.turn + 1) in
+    let turn : c.len_resting-turns.result - c.loop-turn.turn ≡ suc left = omega (arith, c.loop-turn-test.true) in
+    let partner = sym (c.in-Some-partner_for.ensures ∙ partner_still (g.T.Tape.lines c.loop-turn.self.tape) c.loop-turn.self.table o c.reach-price.result) in
     let go =
     ap (λ n. lines n c.args.time c.reach-price.result o here) turn
-    ∙ lines_go c.args.time c.reach-price.result o left here (row_order c.in-Some.row) (row_order c.in-Some-partner-for.partner) (sym c.in-Some.ensures) partner
+    ∙ lines_go c.args.time c.reach-price.result o left here (row_order c.in-Some.row) (row_order c.in-Some-partner_for.partner) (sym c.in-Some.ensures) partner
     in (
       c.line.ensures.capacity ∙ c.loop-turn.invariant.0,
       c.line.ensures.rows ∙ c.loop-turn.invariant.1,
@@ -24,14 +24,14 @@ loop-turn-preserved g c =
           let so = c.loop-turn.invariant.2 h k ∙ go in
           so
           ∙ ap (lines left c.args.time c.reach-price.result o)
-          (sym (c.line.ensures.market h (line_free c.args.time c.reach-price.result o left here _ (row_order c.in-Some.row) (row_order c.in-Some-partner-for.partner) (capacity_of g.T.Tape c.args.self.now) _ so k c.loop-turn.invariant.0))),
+          (sym (c.line.ensures.market h (line_free c.args.time c.reach-price.result o left here _ (row_order c.in-Some.row) (row_order c.in-Some-partner_for.partner) (capacity_of g.T.Tape c.args.self.now) _ so k c.loop-turn.invariant.0))),
     )
 
 pub returns-in_default : goal.returns-in_default
 returns-in_default g c =
     let o = row_order c.args.taker.now in
     let tape = g.T.Tape.lines c.loop-turn.self.tape in
-    let e = sweep_lines (g.T.Tape.lines c.args.self.now.tape) c.args.self.now.table c.args.time o c.len-resting-turns.result c.reach-price.result c.len-resting-turns.ensures c.reach-price.ensures in
+    let e = sweep_lines (g.T.Tape.lines c.args.self.now.tape) c.args.self.now.table c.args.time o c.len_resting-turns.result c.reach-price.result c.len_resting-turns.ensures c.reach-price.ensures in
     record {
       market =
           λ h k. sym (e ∙ c.loop-turn.invariant.2 h (subst (λ (m : Market). length m.tape ≤ capacity_of g.T.Tape c.args.self.now) e k)
@@ -40,15 +40,15 @@ returns-in_default g c =
       rows = c.loop-turn.invariant.1;
     }
 
-pub returns-in_default-partner-for : goal.returns-in_default-partner-for
-returns-in_default-partner-for g c =
+pub returns-in_default-partner_for : goal.returns-in_default-partner_for
+returns-in_default-partner_for g c =
     let o = row_order c.args.taker.now in
     let tape = g.T.Tape.lines c.loop-turn.self.tape in
-    let e = sweep_lines (g.T.Tape.lines c.args.self.now.tape) c.args.self.now.table c.args.time o c.len-resting-turns.result c.reach-price.result c.len-resting-turns.ensures c.reach-price.ensures in
+    let e = sweep_lines (g.T.Tape.lines c.args.self.now.tape) c.args.self.now.table c.args.time o c.len_resting-turns.result c.reach-price.result c.len_resting-turns.ensures c.reach-price.ensures in
     record {
       market =
           λ h k. sym (e ∙ c.loop-turn.invariant.2 h (subst (λ (m : Market). length m.tape ≤ capacity_of g.T.Tape c.args.self.now) e k)
-          ∙ lines_alone c.args.time c.reach-price.result o _ (market_of g.T.Tape c.loop-turn.self) (row_order c.in-Some.row) (sym c.in-Some.ensures) (sym (c.in_default-partner-for.ensures ∙ partner_still tape c.loop-turn.self.table o c.reach-price.result)));
+          ∙ lines_alone c.args.time c.reach-price.result o _ (market_of g.T.Tape c.loop-turn.self) (row_order c.in-Some.row) (sym c.in-Some.ensures) (sym (c.in_default-partner_for.ensures ∙ partner_still tape c.loop-turn.self.table o c.reach-price.result)));
       capacity = c.loop-turn.invariant.0;
       rows = c.loop-turn.invariant.1;
     }
@@ -57,7 +57,7 @@ pub returns : goal.returns
 returns g c =
     let o = row_order c.args.taker.now in
     let tape = g.T.Tape.lines c.loop-turn.self.tape in
-    let e = sweep_lines (g.T.Tape.lines c.args.self.now.tape) c.args.self.now.table c.args.time o c.len-resting-turns.result c.reach-price.result c.len-resting-turns.ensures c.reach-price.ensures in
+    let e = sweep_lines (g.T.Tape.lines c.args.self.now.tape) c.args.self.now.table c.args.time o c.len_resting-turns.result c.reach-price.result c.len_resting-turns.ensures c.reach-price.ensures in
     record {
       market =
           λ h k. sym (e ∙ c.loop-turn.invariant.2 h (subst (λ (m : Market). length m.tape ≤ capacity_of g.T.Tape c.args.self.now) e k)

@@ -22,15 +22,15 @@ loop-index-preserved g c =
     let d = row_there here i within in
     let next = swept_if c.args.round c.args.time (get_or here i d) m in
     let os = those (woken c.args.round) (orders_in (drop (i + 1) rs)) in (
-      c.sweep-row.ensures.capacity ∙ c.loop-index.invariant.0,
-      c.sweep-row.ensures.rows ∙ same,
+      c.sweep_row.ensures.capacity ∙ c.loop-index.invariant.0,
+      c.sweep_row.ensures.rows ∙ same,
       λ h k.
           let so = c.loop-index.invariant.2 h k in
           let whole = so.0 ∙ round_turn c.args.round c.args.time rs here i d lt within same m c.args.self.now.table.ascending so.1 in
           let room : length next.tape ≤ capacity_of g.T.Tape c.loop-index.self =
           subst (λ n. length next.tape ≤ n) (sym c.loop-index.invariant.0) (room_turn c.args.time os next _ (capacity_of g.T.Tape c.args.self.now) whole k)
           in
-          let done = c.sweep-row.ensures.market h d within room in (
+          let done = c.sweep_row.ensures.market h d within room in (
             whole ∙ ap (sweep_each c.args.time os) (sym done),
             λ j e. subst (λ (r : Market). resting j r.orders ≡ None) (sym done) (absent_turn c.args.round c.args.time (get_or here i d) j m (so.1 j e)),
           ),

@@ -17,7 +17,7 @@ loop-index-preserved c =
     let row = c.in-Some.row in
     let lt : i < length rs = c.in-Some.ensures.0 in
     let is : row ≡ get_or rs i row = c.in-Some.ensures.1 in
-    let here : c.shares-on-left.result ≡ shares_here s row = c.shares-on-left.ensures in
+    let here : c.shares_on-left.result ≡ shares_here s row = c.shares_on-left.ensures in
     let sum = shares_more s rs i row lt is in
     elim c.if-left-gt0.branch [
       | then-left-gt0 w ↦

@@ -12,7 +12,7 @@ returns c =
     let mark = c.args.self.now.fill.now.mark in
     let tag = c.args.tag in
     let fit : fits (length was - mark) (record { tag = tag; value = value }) ≡ true = and_from _ _ (le-leb (length value) 65535 (omega arith)) (le-leb (length (field_bytes tag value)) (length was - mark) (omega arith)) in
-    let bytes = field_put was value c.copy-from-slice.new.self mark tag (mark + 3 + length value - (mark + 3)) (omega arith) (omega arith) c.copy-from-slice.ensures.after (omega arith) in
+    let bytes = field_put was value c.copy_from_slice.new.self mark tag (mark + 3 + length value - (mark + 3)) (omega arith) (omega arith) c.copy_from_slice.ensures.after (omega arith) in
     record {
       page = with_fitting was _ mark _ (record { tag = tag; value = value }) fit bytes (omega arith);
       outcome = sym (cond-true (fits (length was - mark) (record { tag = tag; value = value })) _ _ fit);

@@ -19,15 +19,15 @@ loop-order-preserved g c =
     let p = page_of c.loop-order.self in
     let rest = map listed (drop (i + 1) os) in
     let split : map listed (drop i os) ≡ listed x ∷ rest = at_drop_more (map listed) os i x c.loop-order-test.true ∙ ap (λ y. listed y ∷ rest) (sym c.order-item.is) in
-    let fit : order_fits (room p) (listed x) ≡ true = passed _ _ c.in_ok-write-kept.ensures.outcome in
-    let page = c.write-kept.ensures.page in (
+    let fit : order_fits (room p) (listed x) ≡ true = passed _ _ c.in_ok-write_kept.ensures.outcome in
+    let page = c.write_kept.ensures.page in (
       c.loop-order.invariant.0 ∙ ap (with_orders p) split ∙ one_more p (listed x) rest fit ∙ ap (λ q. with_orders q rest) (sym page),
       c.loop-order.invariant.1 ∙ ap (orders_fit (room p)) split ∙ one_fits p (listed x) rest fit ∙ ap (λ (q : Page). orders_fit (room q) rest) (sym page),
-      c.write-kept.ensures.lent ∙ c.loop-order.invariant.2,
+      c.write_kept.ensures.lent ∙ c.loop-order.invariant.2,
       λ before h.
           let i = c.loop-order.invariant.3 before h in (
             i.0 ++ whole_orders (room p) (listed x ∷ []),
-            c.write-kept.ensures.reads_back i.0 i.1,
+            c.write_kept.ensures.reads_back i.0 i.1,
             i.2
                 ∙ ap (λ xs. i.0 ++ whole_orders (room p) xs) split
                 ∙ wholes_more p (listed x) rest i.0 fit
@@ -35,8 +35,8 @@ loop-order-preserved g c =
           ),
     )
 
-pub returns-in_err-write-kept : goal.returns-in_err-write-kept
-returns-in_err-write-kept g c =
+pub returns-in_err-write_kept : goal.returns-in_err-write_kept
+returns-in_err-write_kept g c =
     let listed = g.K.KeepsOrder.listed in
     let os = c.args.orders.now in
     let i = c.loop-order.order-index in
@@ -44,17 +44,17 @@ returns-in_err-write-kept g c =
     let p = page_of c.loop-order.self in
     let rest = map listed (drop (i + 1) os) in
     let split : map listed (drop i os) ≡ listed x ∷ rest = at_drop_more (map listed) os i x c.loop-order-test.true ∙ ap (λ y. listed y ∷ rest) (sym c.order-item.is) in
-    let fit : order_fits (room p) (listed x) ≡ false = failed _ _ _ c.in_err-write-kept.ensures.outcome in
-    let e = err_from_is_err_and c.from-residual.result c.from-residual.ensures.1 in
-    let page = c.write-kept.ensures.page in
+    let fit : order_fits (room p) (listed x) ≡ false = failed _ _ _ c.in_err-write_kept.ensures.outcome in
+    let e = err_from_is_err_and c.from_residual.result c.from_residual.ensures.1 in
+    let page = c.write_kept.ensures.page in
     rw (e.1, e.2) (record {
       page = page ∙ sym (c.loop-order.invariant.0 ∙ ap (with_orders p) split ∙ half_left p (listed x) rest fit);
-      outcome = refused_told _ _ _ _ _ c.in_err-write-kept.ensures.outcome (c.loop-order.invariant.1 ∙ ap (orders_fit (room p)) split ∙ none_fits p (listed x) rest fit) (ap (λ (q : Page). q.mark) page ∙ mark_back p (listed x) rest fit);
-      lent = c.write-kept.ensures.lent ∙ c.loop-order.invariant.2;
+      outcome = refused_told _ _ _ _ _ c.in_err-write_kept.ensures.outcome (c.loop-order.invariant.1 ∙ ap (orders_fit (room p)) split ∙ none_fits p (listed x) rest fit) (ap (λ (q : Page). q.mark) page ∙ mark_back p (listed x) rest fit);
+      lent = c.write_kept.ensures.lent ∙ c.loop-order.invariant.2;
       reads_back = λ before h.
           let i = c.loop-order.invariant.3 before h in
           let same = i.2 ∙ ap (λ xs. i.0 ++ whole_orders (room p) xs) split ∙ ap (λ xs. i.0 ++ xs) (wholes_stop p (listed x) rest fit) in
-          subst (Holds (page_of c.write-kept.new.self)) (sym same) (c.write-kept.ensures.reads_back i.0 i.1);
+          subst (Holds (page_of c.write_kept.new.self)) (sym same) (c.write_kept.ensures.reads_back i.0 i.1);
     })
 
 pub returns : goal.returns

@@ -16,8 +16,8 @@ returns g c =
     let told : Listed = order_of c.identifier.result.now (terms_of c.terms-terms.result) c.left.result in
     let same : told ≡ kept = kept_same kept c.identifier.result.now (terms_of c.terms-terms.result) c.left.result c.identifier.ensures c.terms-terms.ensures c.left.ensures in
     record {
-      page = c.write-order.ensures.page ∙ ap (with_order p) same;
-      outcome = c.write-order.ensures.outcome ∙ ap (λ o. done_if (order_fits (room p) o) p.mark) same;
-      lent = c.write-order.ensures.lent;
-      reads_back = λ os h. subst (λ o. Holds (page_of c.write-order.new.self) (os ++ whole_orders (room p) (o ∷ []))) same (c.write-order.ensures.reads_back os h);
+      page = c.write_order.ensures.page ∙ ap (with_order p) same;
+      outcome = c.write_order.ensures.outcome ∙ ap (λ o. done_if (order_fits (room p) o) p.mark) same;
+      lent = c.write_order.ensures.lent;
+      reads_back = λ os h. subst (λ o. Holds (page_of c.write_order.new.self) (os ++ whole_orders (room p) (o ∷ []))) same (c.write_order.ensures.reads_back os h);
     }

@@ -18,9 +18,9 @@ returns c =
     let o : Listed = order_of id (terms_of terms) left in
     let small : left < 2 ^ 32 = omega arith in
     record {
-      page = c.put-order-outcome.ensures.page;
-      outcome = c.put-order-outcome.ensures.outcome;
+      page = c.put_order-outcome.ensures.page;
+      outcome = c.put_order-outcome.ensures.outcome;
       lent = refl;
-      reads_back = λ os h. subst (λ q. Holds q (os ++ whole_orders (room p) (o ∷ []))) (sym c.put-order-outcome.ensures.page) (holds_order p o os h (lawful_width (room p) id terms left small));
+      reads_back = λ os h. subst (λ q. Holds q (os ++ whole_orders (room p) (o ∷ []))) (sym c.put_order-outcome.ensures.page) (holds_order p o os h (lawful_width (room p) id terms left small));
       ticket = ticket_back terms left;
     }
