@@ -5,14 +5,14 @@ use Rattle.book.proofs.state.Book.advance.Goals as goal
 
 pub returns-in_err-check : goal.returns-in_err-check
 returns-in_err-check g c sound =
-    let p = err_from_is_err_and c.from-residual.result c.from-residual.ensures.1 in
+    let p = err_from_is_err_and c.from_residual.result c.from_residual.ensures.1 in
     rw (p.1, p.2) (begun_refused g.D.Directory g.T.Tape c.args.self.now c.args.time c.in_err-check.field-0.0 c.in_err-check.ensures sound)
 
 pub returns : goal.returns
 returns g c sound =
-    begun g.D.Directory g.T.Tape c.args.self.now c.bring-to.new.self c.args.time c.in_ok-check.ensures sound
-    c.bring-to.ensures.book
-    c.bring-to.ensures.tied
-    c.bring-to.ensures.rests
-    c.bring-to.ensures.capacity
-    c.bring-to.ensures.room
+    begun g.D.Directory g.T.Tape c.args.self.now c.bring_to.new.self c.args.time c.in_ok-check.ensures sound
+    c.bring_to.ensures.book
+    c.bring_to.ensures.tied
+    c.bring_to.ensures.rests
+    c.bring_to.ensures.capacity
+    c.bring_to.ensures.room

@@ -28,12 +28,12 @@ returns-in_default g c sound =
 
 pub returns-in_err-advance : goal.returns-in_err-advance
 returns-in_err-advance g c sound =
-    let p = err_from_is_err_and c.from-residual.result c.from-residual.ensures.1 in
+    let p = err_from_is_err_and c.from_residual.result c.from_residual.ensures.1 in
     rw (p.1, p.2) (c.in_err-advance.ensures sound (entry c.args.time c.args.id.now (terms_of c.args.terms)) refl c.in-Some.ensures.0)
 
 pub returns-in_err-number : goal.returns-in_err-number
 returns-in_err-number g c sound =
-    let p = err_from_is_err_and c.from-residual-in_err-number.result c.from-residual-in_err-number.ensures.1 in
+    let p = err_from_is_err_and c.from_residual-in_err-number.result c.from_residual-in_err-number.ensures.1 in
     let t = g.T.Tape in
     let mid = c.advance.new.self in
     let id = c.args.id.now in
@@ -53,8 +53,8 @@ returns-in-Rest g c sound =
     let time = c.args.time in
     let w = terms_of c.args.terms in
     let k = c.in_ok-number.number in
-    let after = c.sweep-and-rest.new.self in
-    let v = c.sweep-and-rest.result in
+    let after = c.sweep_and_rest.new.self in
+    let v = c.sweep_and_rest.result in
     let row : Row = record { identifier = c.in-Some.identifier; number = k; terms = c.args.terms; left = c.args.terms.shares } in
     let name : row_name row ≡ c.args.id.now = c.in-Some.ensures.1 in
     let lawful = ap lawful_identifier name ∙ c.in-Some.ensures.0 in
@@ -63,7 +63,7 @@ returns-in-Rest g c sound =
     let swept = swept_in time (row_order row) (market_of t mid.market) in
     let done =
     subst (λ f. Entered d t (counting k mid) after (rested f time k c.args.terms.shares swept) v) (sym c.in-Rest.is)
-    (c.sweep-and-rest.ensures (ready d t here mid time k w row sound brought lawful test refl c.args.terms.shares_lawful.0) (has_place d t here mid time k w row sound brought lawful test refl c.in-Rest.is))
+    (c.sweep_and_rest.ensures (ready d t here mid time k w row sound brought lawful test refl c.args.terms.shares_lawful.0) (has_place d t here mid time k w row sound brought lawful test refl c.in-Rest.is))
     in
     subst (λ id. Carried d t here after (entry time id w) (entered v.0 v.1 v.2)) name (accepted d t here mid time k w row sound brought lawful test refl after v done)
 
@@ -76,8 +76,8 @@ returns-in-ImmediateOrCancel g c sound =
     let time = c.args.time in
     let w = terms_of c.args.terms in
     let k = c.in_ok-number.number in
-    let after = c.sweep-and-lapse.new.self in
-    let v = c.sweep-and-lapse.result in
+    let after = c.sweep_and_lapse.new.self in
+    let v = c.sweep_and_lapse.result in
     let row : Row = record { identifier = c.in-Some.identifier; number = k; terms = c.args.terms; left = c.args.terms.shares } in
     let name : row_name row ≡ c.args.id.now = c.in-Some.ensures.1 in
     let lawful = ap lawful_identifier name ∙ c.in-Some.ensures.0 in
@@ -86,6 +86,6 @@ returns-in-ImmediateOrCancel g c sound =
     let swept = swept_in time (row_order row) (market_of t mid.market) in
     let done =
     subst (λ f. Entered d t (counting k mid) after (rested f time k c.args.terms.shares swept) v) (sym c.in-ImmediateOrCancel.is)
-    (c.sweep-and-lapse.ensures (ready d t here mid time k w row sound brought lawful test refl c.args.terms.shares_lawful.0))
+    (c.sweep_and_lapse.ensures (ready d t here mid time k w row sound brought lawful test refl c.args.terms.shares_lawful.0))
     in
     subst (λ id. Carried d t here after (entry time id w) (entered v.0 v.1 v.2)) name (accepted d t here mid time k w row sound brought lawful test refl after v done)

@@ -9,7 +9,7 @@ use Rattle.book.proofs.state.Book.quote.Goals as goal
 
 pub returns-in_err-advance : goal.returns-in_err-advance
 returns-in_err-advance g c sound =
-    let p = err_from_is_err_and c.from-residual.result c.from-residual.ensures.1 in
+    let p = err_from_is_err_and c.from_residual.result c.from_residual.ensures.1 in
     rw (p.1, p.2) (c.in_err-advance.ensures sound (quote c.args.time c.args.quote.bid c.args.quote.offer) refl refl)
 
 pub returns : goal.returns

@@ -18,29 +18,29 @@ returns g c ready =
     let row = c.args.row in
     let k = row.number in
     let rows = vec_items here.market.table.rows in
-    let swept = c.sweep-in.new.self in
+    let swept = c.sweep_in.new.self in
     let swept_rows = vec_items swept.table.rows in
-    let same = c.sweep-in.ensures.rows ready.joins in
-    let market = c.sweep-in.ensures.market ready.day ready.joins ready.lines in
-    let left = c.shares-left-left.ensures ∙ ap (λ (m : Market). left_of (resting k m.orders)) market in
+    let same = c.sweep_in.ensures.rows ready.joins in
+    let market = c.sweep_in.ensures.market ready.day ready.joins ready.lines in
+    let left = c.shares_left-left.ensures ∙ ap (λ (m : Market). left_of (resting k m.orders)) market in
     let m = market_of t swept in
-    let fewer : SameButShares rows (vec_items c.drop-newest.new.self.rows) =
-    subst (λ (rs : List Row). SameButShares rows rs) (sym c.drop-newest.ensures.rows) (front_same rows swept_rows row same)
+    let fewer : SameButShares rows (vec_items c.drop_newest.new.self.rows) =
+    subst (λ (rs : List Row). SameButShares rows rs) (sym c.drop_newest.ensures.rows) (front_same rows swept_rows row same)
     in
     record {
       answer =
-          ap (λ n. entered k n c.shares-left-left.result) c.saturating-sub.ensures
+          ap (λ n. entered k n c.shares_left-left.result) c.saturating_sub.ensures
           ∙ ap (λ n. entered k (row.left - n) n) left;
       market =
           c.tidy.ensures.market
-          ∙ c.drop-newest.ensures.market (t.lines swept.tape)
+          ∙ c.drop_newest.ensures.market (t.lines swept.tape)
           ∙ ap (λ n. with_orders (without n m.orders) m) (newest_same rows swept_rows row same)
           ∙ ap (λ (z : Market). with_orders (without k z.orders) z) market;
       tied =
           c.tidy.ensures.tied
-          (tied_kept (d.number here.directory) (d.count here.directory) rows (vec_items c.drop-newest.new.self.rows) fewer ready.tied);
+          (tied_kept (d.number here.directory) (d.count here.directory) rows (vec_items c.drop_newest.new.self.rows) fewer ready.tied);
       rests = c.tidy.ensures.rests;
-      capacity = ap (λ z. length (t.lines z) + t.free z) c.tidy.ensures.tape ∙ c.sweep-in.ensures.capacity;
+      capacity = ap (λ z. length (t.lines z) + t.free z) c.tidy.ensures.tape ∙ c.sweep_in.ensures.capacity;
       clock = c.tidy.ensures.clock;
       entries = c.tidy.ensures.entries;
       room = c.tidy.ensures.room;

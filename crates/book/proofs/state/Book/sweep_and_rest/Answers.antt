@@ -18,23 +18,23 @@ returns g c ready place =
     let k = row.number in
     let rows = vec_items here.market.table.rows in
     let held = c.put.new.self in
-    let id = c.as-bytes.result.now in
-    let name : id ≡ row_name row = c.as-bytes.ensures in
+    let id = c.as_bytes.result.now in
+    let name : id ≡ row_name row = c.as_bytes.ensures in
     let added =
     put_added c.put.result id k (d.number here.directory) (d.number held) (d.count here.directory) (d.count held) c.put.ensures
     (ap lawful_identifier name ∙ place.lawful) (ap (d.number here.directory) name ∙ place.fresh) place.free
     in
     let joined = row_joined row rows id (d.number here.directory) (d.number held) (d.count here.directory) (d.count held) name added ready.tied in
-    let market = c.sweep-in.ensures.market ready.day ready.joins ready.lines in
-    let left = c.shares-left-left.ensures ∙ ap (λ (m : Market). left_of (resting k m.orders)) market in
+    let market = c.sweep_in.ensures.market ready.day ready.joins ready.lines in
+    let left = c.shares_left-left.ensures ∙ ap (λ (m : Market). left_of (resting k m.orders)) market in
     record {
-      answer = ap (λ n. entered k n 0) (c.saturating-sub.ensures ∙ ap (λ n. row.left - n) left);
+      answer = ap (λ n. entered k n 0) (c.saturating_sub.ensures ∙ ap (λ n. row.left - n) left);
       market = c.tidy.ensures.market ∙ market;
       tied =
           c.tidy.ensures.tied
-          (tied_kept (d.number held) (d.count held) (rows ++ (row ∷ [])) (vec_items c.sweep-in.new.self.table.rows) (c.sweep-in.ensures.rows ready.joins) joined);
+          (tied_kept (d.number held) (d.count held) (rows ++ (row ∷ [])) (vec_items c.sweep_in.new.self.table.rows) (c.sweep_in.ensures.rows ready.joins) joined);
       rests = c.tidy.ensures.rests;
-      capacity = ap (λ z. length (t.lines z) + t.free z) c.tidy.ensures.tape ∙ c.sweep-in.ensures.capacity;
+      capacity = ap (λ z. length (t.lines z) + t.free z) c.tidy.ensures.tape ∙ c.sweep_in.ensures.capacity;
       clock = c.tidy.ensures.clock;
       entries = c.tidy.ensures.entries;
       room = c.tidy.ensures.room;

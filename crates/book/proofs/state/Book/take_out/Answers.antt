@@ -7,7 +7,7 @@ returns g c =
     let d = g.D.Directory in
     let here = c.args.self.now in
     record {
-      shares = c.shares-left-left.ensures;
+      shares = c.shares_left-left.ensures;
       market = c.tidy.ensures.market ∙ c.leave.ensures.market (g.T.Tape.lines here.market.tape);
       tied = λ tied.
           c.tidy.ensures.tied

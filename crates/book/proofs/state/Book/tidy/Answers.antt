@@ -15,8 +15,8 @@ loop-identifier-preserved g c =
       λ tied.
           let before = subst (λ (rs : List Row). Tied (d.number here) (d.count here) rs) retired.was (inv.0 tied) in
           let left =
-          row_left retired.row retired.later retired.earlier c.as-bytes.result.now (d.number here) (d.number after) (d.count here) (d.count after) c.remove.result
-          (c.as-bytes.ensures ∙ ap identifier_bytes retired.told) c.remove.ensures.told c.remove.ensures.left before
+          row_left retired.row retired.later retired.earlier c.as_bytes.result.now (d.number here) (d.number after) (d.count here) (d.count after) c.remove.result
+          (c.as_bytes.ensures ∙ ap identifier_bytes retired.told) c.remove.ensures.told c.remove.ensures.left before
           in
           subst (λ (rs : List Row). Tied (d.number after) (d.count after) rs) (sym retired.is) left,
       c.in-Some.ensures.market (g.T.Tape.lines c.loop-identifier.self.market.tape) ∙ inv.1,

@@ -39,7 +39,7 @@ returns g c sound =
     let found = found_some id (vec_items table.rows) k sound.rests table.ascending (sym (sound.tied.known id) ∙ sym c.in-Some.ensures) in
     let rests : resting k orders ≡ Some order = sym c.in-Some-row.ensures in
     let same : found.order ≡ order = some_same found.order order (sym found.rests ∙ rests) in
-    let written : c.saturating-sub-written.result ≡ length (t.lines here.market.tape) = omega (arith, c.saturating-sub-written.ensures, c.free-lines.ensures, sound.room) in
+    let written : c.saturating_sub-written.result ≡ length (t.lines here.market.tape) = omega (arith, c.saturating_sub-written.ensures, c.free_lines.ensures, sound.room) in
     let told = c.why.ensures written in
     record {
       order = order;
