@@ -20,8 +20,8 @@ loop-call-preserved g c =
       search rules,
       λ sound.
           let so_far = inv.2 sound in
-          followed_more g.D.Directory g.T.Tape c.args.book.now c.loop-call.book c.carry-out.new.book c.args.calls.now c.loop-call.call-index c.call-item.result
-          (vec_items c.loop-call.answers) (vec_items c.push-reserved.new.self) c.carry-out.result c.loop-call-test.true c.call-item.is c.push-reserved.ensures.items so_far (c.carry-out.ensures so_far.sound),
+          followed_more g.D.Directory g.T.Tape c.args.book.now c.loop-call.book c.carry_out.new.book c.args.calls.now c.loop-call.call-index c.call-item.result
+          (vec_items c.loop-call.answers) (vec_items c.push_reserved.new.self) c.carry_out.result c.loop-call-test.true c.call-item.is c.push_reserved.ensures.items so_far (c.carry_out.ensures so_far.sound),
     )
 
 pub returns : goal.returns

@@ -7,4 +7,4 @@ pub returns : goal.returns
 returns c =
     let some : 1 ≤ length c.args.word.now = search rules in
     let minus : get_or c.args.word.now 0 0 ≡ 45 = search rules in
-    c.signed-2.ensures ∙ ap (signed true) c.size-in-2.ensures ∙ sym (minus_first c.args.word.now some minus)
+    c.signed-2.ensures ∙ ap (signed true) c.size_in-2.ensures ∙ sym (minus_first c.args.word.now some minus)
