@@ -67,6 +67,7 @@ module _ {D T : Type 0} (d : DirectoryOf D) (t : TapeOf T) where
         book = sym (ap (λ (o : Outcome). o.book) e);
         sound = sound;
         capacity = refl;
+        room = refl;
       }
 
   -- the lines that settling writes find room
@@ -83,7 +84,7 @@ module _ {D T : Type 0} (d : DirectoryOf D) (t : TapeOf T) where
 
   -- a call that is carried out, or refused once the clock is at its time
   finished : (b after : OpenBook D T) (c : Call) (a : Answer) → Sound d t b → a ≡ (outcome_of t b c).answer → book_of t after ≡ (outcome_of t b c).book → BookTied d after → AllRest (vec_items after.market.table.rows) → capacity_of t after.market ≡ capacity_of t b.market → after.room ≡ b.room → Carried d t b after c a
-  finished b after c a sound answer book tied rests capacity room-kept =
+  finished b after c a sound answer book tied rests capacity same_room =
       let free = t.free b.market.tape in
       let room = capacity_of t b.market in
       let before : Book = (run room sound.calls (opened sound.bid sound.offer)).book in
@@ -95,7 +96,6 @@ module _ {D T : Type 0} (d : DirectoryOf D) (t : TapeOf T) where
             record {
               tied = tied;
               rests = rests;
-              room = room-kept ∙ sound.room ∙ sym capacity;
               bid = sound.bid;
               offer = sound.offer;
               calls = sound.calls ++ (c ∷ []);
@@ -107,6 +107,7 @@ module _ {D T : Type 0} (d : DirectoryOf D) (t : TapeOf T) where
                   ∙ ap (λ n. (run n (sound.calls ++ (c ∷ [])) (opened sound.bid sound.offer)).book) (sym capacity);
             };
         capacity = capacity;
+        room = same_room;
       }
 
   -- so do all the lines of the call

@@ -45,10 +45,10 @@ module _ {D T : Type 0} (d : DirectoryOf D) (t : TapeOf T) (directory : D) (tape
             record {
               tied = subst (λ (rs : List Row). Tied (d.number directory) (d.count directory) rs) (sym no_rows) (tied_none (d.number directory) (d.count directory) emptied);
               rests = subst (λ (rs : List Row). AllRest rs) (sym no_rows) rests_none;
-              room = omega (arith, free, ap length empty);
               bid = bid;
               offer = offer;
               calls = [];
               reached = book ∙ sym (nothing_run (length (t.lines tape) + t.free tape) (opened bid offer));
             };
+        room = omega (arith, free, ap length empty);
       }

@@ -17,13 +17,16 @@ book_of t b = record { market = market_of t b.market; clock = b.clock; entries =
 abbrev pub BookTied : {D T : Type 0} → DirectoryOf D → OpenBook D T → Type 0
 BookTied d b = Tied (d.number b.directory) (d.count b.directory) (vec_items b.market.table.rows)
 
--- between calls: the directory is tied to the rows, every row rests, the room is the tape's, and the book is what some run of
--- calls on a new book with an empty tape leaves
+-- between calls: the directory is tied to the rows, every row rests, and the book is what some run of calls on a new book
+-- with an empty tape leaves
 pub record Sound {D T : Type 0} (d : DirectoryOf D) (t : TapeOf T) (b : OpenBook D T) : Type 0 where
   pub tied : BookTied d b
   pub rests : AllRest (vec_items b.market.table.rows)
-  pub room : b.room ≡ capacity_of t b.market
   pub bid : ℕ
   pub offer : ℕ
   pub calls : List Call
   pub reached : book_of t b ≡ (run (capacity_of t b.market) calls (opened bid offer)).book
+
+-- the book knows how many lines its tape has room for, written and free
+abbrev pub KnowsRoom : {D T : Type 0} → TapeOf T → OpenBook D T → Type 0
+KnowsRoom t b = b.room ≡ capacity_of t b.market

@@ -23,6 +23,7 @@ pub record Carried {D T : Type 0} (d : DirectoryOf D) (t : TapeOf T) (before aft
   pub book : book_of t after ≡ (outcome_of t before c).book
   pub sound : Sound d t after
   pub capacity : capacity_of t after.market ≡ capacity_of t before.market
+  pub room : after.room ≡ before.room
 
 -- the two refusals that every call may have, before the clock moves
 abbrev pub time_and_tape : ℕ → ℕ → Book → Result (Unit {0}) Refusal

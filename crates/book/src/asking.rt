@@ -7,7 +7,7 @@ ghost use Rattle.rules.specs.Questions.{Answered};
 ghost use Rattle.rules.specs.Calls.{named};
 ghost use Rattle.orders.specs.Rows.{row_order};
 ghost use Rattle.questions.specs.Meant.{standing_as};
-ghost use Rattle.book.specs.Books.{book_of, Sound};
+ghost use Rattle.book.specs.Books.{book_of, Sound, KnowsRoom};
 ghost use Rattle.book.specs.Explaining.{Explained};
 
 use crate::explanation::Explanation;
@@ -30,7 +30,7 @@ impl<D: Directory, T: Tape> Book<D, T> {
 
     // Why the resting order that the identifier names reaches as far as it does.
     pub fn why(&self, id: &[u8]) -> Option<Explanation>
-        ensures { Sound D.Directory T.Tape self.now → MatchOption result
+        ensures { Sound D.Directory T.Tape self.now → KnowsRoom T.Tape self.now → MatchOption result
             (named id.now (book_of T.Tape self.now).market.orders ≡ None)
             (λ e. Explained (book_of T.Tape self.now) id.now e) }
     {

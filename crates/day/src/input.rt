@@ -1,4 +1,5 @@
 // The lines of standard input, with their numbers.
+use anyhow::anyhow;
 use days::commands::Expected;
 use std::alloc::Global;
 use std::io;
@@ -12,12 +13,12 @@ pub struct Input {
 }
 
 impl Input {
-    pub fn new(rt: &HostRuntime) -> Input {
-        Input {
-            reader: BufReader::new(rt.stdin()),
+    pub fn new(rt: &HostRuntime) -> io::Result<Input> {
+        Ok(Input {
+            reader: BufReader::new(rt.alloc(), rt.stdin())?,
             line: Vec::new(rt.alloc()),
             number: 0,
-        }
+        })
     }
 
     // Reads the next line; false at the end.
@@ -40,7 +41,7 @@ impl Input {
     pub fn bad_line(&self, heap: Global, expected: Expected) -> anyhow::Error {
         let number = self.number;
         match format!(in heap; "line {number}: {expected}") {
-            Ok(text) => text.into(),
+            Ok(text) => anyhow!(text),
             Err(e) => e.into(),
         }
     }
@@ -48,7 +49,7 @@ impl Input {
     pub fn failed(&self, heap: Global, what: &str, file: &str) -> anyhow::Error {
         let number = self.number;
         match format!(in heap; "line {number}: cannot {what} {file}") {
-            Ok(text) => text.into(),
+            Ok(text) => anyhow!(text),
             Err(e) => e.into(),
         }
     }

@@ -19,7 +19,7 @@ fn run(rt: &HostRuntime) -> anyhow::Result<()> {
     let heap = rt.alloc();
     let args: Vec<String> = env::args(rt)?.collect(heap)?;
     let options = Options::read(heap, args.as_slice())?;
-    let mut input = Input::new(rt);
+    let mut input = Input::new(rt)?;
     for _ in 0..u64::MAX {
         if !input.next()? {
             return Ok(());

@@ -28,6 +28,7 @@ module _ {D T : Type 0} (d : DirectoryOf D) (t : TapeOf T) (time place : ℕ) (o
         book = sym (ap (λ (a : Attempt). a.book) same);
         sound = sound;
         capacity = refl;
+        room = refl;
       }
 
   pub ticketed : (b after : Book D T) (w : OrderTerms) (r : Result (Unit {0}) LoadFault) (a : Answer) → Ok w ≡ listed_ticket place o.draft → fault_of r ≡ entry_fault place a
@@ -45,4 +46,5 @@ module _ {D T : Type 0} (d : DirectoryOf D) (t : TapeOf T) (time place : ℕ) (o
         book = carried.book ∙ ap (λ (z : Outcome). z.book) so ∙ sym (ap (λ (z : Attempt). z.book) same);
         sound = carried.sound;
         capacity = carried.capacity;
+        room = carried.room;
       }

@@ -76,6 +76,7 @@ module _ {D T : Type 0} (d : DirectoryOf D) (t : TapeOf T) (before : Book D T) (
     pub count : so_put ≡ length slips
     pub sound : Sound d t here
     pub capacity : capacity_of t here.market ≡ room
+    pub same_room : here.room ≡ before.room
 
   pub so_far_none : Sound d t before → SoFar before roll register 0 0
   so_far_none sound =
@@ -91,6 +92,7 @@ module _ {D T : Type 0} (d : DirectoryOf D) (t : TapeOf T) (before : Book D T) (
         count = refl;
         sound = sound;
         capacity = refl;
+        same_room = refl;
       }
 
   -- a load that is over
@@ -101,13 +103,15 @@ module _ {D T : Type 0} (d : DirectoryOf D) (t : TapeOf T) (before : Book D T) (
       → room_left roll_here + length l.slips ≡ room_left roll
       → Sound d t here
       → capacity_of t here.market ≡ room
+      → here.room ≡ before.room
       → LoadedInto d t before here roll roll_here time register r
-  over here roll_here r l stop same answer ran put places sound capacity =
+  over here roll_here r l stop same answer ran put places sound capacity same_room =
       record {
         answer = answer ∙ ap (λ (z : Ended). load_answer z.stop z.load) (sym same);
         ran = ran ∙ ap (λ (z : Ended). (run room z.load.calls (book_of t before)).book) (sym same);
         sound = sound;
         capacity = capacity;
+        room = same_room;
         slips = put ∙ ap (λ (z : Ended). records roll ++ z.load.slips) (sym same);
         places = ap (λ (z : Ended). room_left roll_here + length z.load.slips) same ∙ places;
         lawful = load_lawful time room (room_left roll) register (book_of t before);
@@ -120,12 +124,12 @@ module _ {D T : Type 0} (d : DirectoryOf D) (t : TapeOf T) (before : Book D T) (
     pub finished : None ≡ read_next (length register) rest → LoadedInto d t before here roll roll_here time register (Ok (record { entered = n; slips = k }))
     finished e =
         over here roll_here _ so_far None (s.same ∙ load_end time room (room_left roll) (length register) rest so_far s.turns e)
-        (ap (λ m. Ok (record { entered = n; slips = m })) s.count) s.ran s.put s.places s.sound s.capacity
+        (ap (λ m. Ok (record { entered = n; slips = m })) s.count) s.ran s.put s.places s.sound s.capacity s.same_room
 
     pub broken : (fault : Fault) → 0 < length rest → Some (Err fault) ≡ read_next (length register) rest → LoadedInto d t before here roll roll_here time register (Err (Register fault))
     broken fault h e =
         over here roll_here _ so_far (Some (Register fault)) (s.same ∙ load_fault time room (room_left roll) (length register) rest so_far s.turns fault (omega (arith, s.enough)) e)
-        refl s.ran s.put s.places s.sound s.capacity
+        refl s.ran s.put s.places s.sound s.capacity s.same_room
 
     -- an order came next, and was attempted
     module _ (o : ListedOrder) (left : List ℕ) (came : Came register rest left o) (after : Book D T) (r : Result (Unit {0}) LoadFault) (tried : Attempted d t here after time o.place (listed_of o) r) where
@@ -190,6 +194,7 @@ module _ {D T : Type 0} (d : DirectoryOf D) (t : TapeOf T) (before : Book D T) (
             count = s.count;
             sound = tried.sound;
             capacity = tried.capacity ∙ s.capacity;
+            same_room = tried.room ∙ s.same_room;
           }
 
       module _ (fault : LoadFault) (told : fault_of r ≡ Some fault) where
@@ -210,6 +215,7 @@ module _ {D T : Type 0} (d : DirectoryOf D) (t : TapeOf T) (before : Book D T) (
               count = omega (arith, long, s.count);
               sound = tried.sound;
               capacity = tried.capacity ∙ s.capacity;
+            same_room = tried.room ∙ s.same_room;
             }
 
         pub slips_full : (roll_after : Roll Slip) → records roll_after ≡ records roll_here → room_left roll_here ≡ 0 → room_left roll_after ≡ 0 → LoadedInto d t before after roll roll_after time register (Err (SlipsFull o.place))
@@ -218,4 +224,4 @@ module _ {D T : Type 0} (d : DirectoryOf D) (t : TapeOf T) (before : Book D T) (
             let none : ltb (length s.slips) (room_left roll) ≡ false = le-ltb (length s.slips) (room_left roll) (omega (arith, s.places)) in
             over after roll_after _ load_after (Some (SlipsFull place))
             (stepped (Some fault) told ∙ ended_on _ _ more (ap (slip_put place fault load_after) none))
-            (ap (λ m. Err (SlipsFull m)) came.placed) ran_after (kept ∙ s.put) (omega (arith, s.places)) tried.sound (tried.capacity ∙ s.capacity)
+            (ap (λ m. Err (SlipsFull m)) came.placed) ran_after (kept ∙ s.put) (omega (arith, s.places)) tried.sound (tried.capacity ∙ s.capacity) (tried.room ∙ s.same_room)

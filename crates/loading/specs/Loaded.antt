@@ -29,6 +29,7 @@ pub record Attempted {D T : Type 0} (d : DirectoryOf D) (t : TapeOf T) (before a
   pub book : book_of t after ≡ (attempt_at t before time place o).book
   pub sound : Sound d t after
   pub capacity : capacity_of t after.market ≡ capacity_of t before.market
+  pub room : after.room ≡ before.room
 
 -- a whole register, with what is free on the roll for its slips
 abbrev pub load_into : {D T : Type 0} → TapeOf T → Book D T → Roll Slip → ℕ → List ℕ → Ended
@@ -39,6 +40,7 @@ pub record LoadedInto {D T : Type 0} (d : DirectoryOf D) (t : TapeOf T) (before 
   pub ran : book_of t after ≡ (run (capacity_of t before.market) (load_into t before roll time register).load.calls (book_of t before)).book
   pub sound : Sound d t after
   pub capacity : capacity_of t after.market ≡ capacity_of t before.market
+  pub room : after.room ≡ before.room
   pub slips : records roll_after ≡ records roll ++ (load_into t before roll time register).load.slips
   pub places : room_left roll_after + length (load_into t before roll time register).load.slips ≡ room_left roll
   pub lawful : LawfulLoad time register (load_into t before roll time register)

@@ -34,6 +34,7 @@ module _ {D T : Type 0} (d : DirectoryOf D) (t : TapeOf T) where
         ran = same_run (ap answers_of e) refl ∙ sym (no_calls (capacity_of t b.market) (book_of t b));
         sound = sound;
         capacity = refl;
+        room = refl;
       }
 
   -- one call more, that at i
@@ -61,4 +62,5 @@ module _ {D T : Type 0} (d : DirectoryOf D) (t : TapeOf T) where
         ran = so ∙ ap (λ z. run room z b) (sym next);
         sound = carried.sound;
         capacity = carried.capacity ∙ so_far.capacity;
+        room = carried.room ∙ so_far.room;
       }

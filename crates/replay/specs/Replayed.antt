@@ -18,3 +18,4 @@ pub record Followed {D T : Type 0} (d : DirectoryOf D) (t : TapeOf T) (before af
   pub ran : run_of t zs after ≡ run (capacity_of t before.market) (calls_of calls) (book_of t before)
   pub sound : Sound d t after
   pub capacity : capacity_of t after.market ≡ capacity_of t before.market
+  pub room : after.room ≡ before.room

@@ -5,7 +5,7 @@ use Rattle.directory.specs.declared.directories.Directory.{Ghosts as DirectoryOf
 use Rattle.rules.specs.Runs.{opened, run}
 use Rattle.book.specs.declared.refusals.OpenRefusal.{OpenRefusal}
 use Rattle.book.specs.declared.refusals.OpenRefusal.TheVariants.{TapeUsed, NoMemory}
-use Rattle.book.specs.Books.{Sound}
+use Rattle.book.specs.Books.{Sound, KnowsRoom}
 use Rattle.replay.specs.declared.calls.Call.{Call}
 use Rattle.replay.specs.declared.runs.Played.{Played}
 use Rattle.replay.specs.Told.{calls_of}
@@ -16,6 +16,7 @@ pub record PlayedThrough {D T : Type 0} (d : DirectoryOf D) (t : TapeOf T) (bid 
   pub empty : t.lines tape ≡ []
   pub ran : run_of t (vec_items p.answers) p.book ≡ run (t.free tape) (calls_of calls) (opened bid offer)
   pub sound : Sound d t p.book
+  pub room : KnowsRoom t p.book
 
 -- a used tape is told only where one of the two tapes is used; memory is asked for once the first is known to be empty
 abbrev pub BecauseEither : {T U : Type 0} → TapeOf T → T → TapeOf U → U → OpenRefusal → Type 0

@@ -77,7 +77,7 @@ fn add(rt: &HostRuntime, command: &Command, calls: &mut Vec<Call>) -> anyhow::Re
 
 fn bad_line(heap: Global, number: u64, expected: Expected) -> anyhow::Error {
     match format!(in heap; "line {number}: {expected}") {
-        Ok(text) => text.into(),
+        Ok(text) => anyhow!(text),
         Err(e) => e.into(),
     }
 }

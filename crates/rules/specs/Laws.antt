@@ -62,7 +62,14 @@ AlikeButForTicks calls r other_calls other =
 abbrev pub TicksChangeOnlyTheClock : Type 0
 TicksChangeOnlyTheClock =
     (bid offer room other_room : ℕ) (calls other_calls : List Call)
-    → AlikeButForTicks calls (run room calls (opened bid offer)) other_calls (run other_room other_calls (opened bid offer))
+    → shared calls ≡ shared other_calls
+    → TicksInTime calls → TicksInTime other_calls
+    → TapeNeverShort (run room calls (opened bid offer)).answers
+    → TapeNeverShort (run other_room other_calls (opened bid offer)).answers
+    → (answers_to_shared calls (run room calls (opened bid offer)).answers
+    ≡ answers_to_shared other_calls (run other_room other_calls (opened bid offer)).answers)
+    × (((run room calls (opened bid offer)).book ≡ (run other_room other_calls (opened bid offer)).book)
+    ↔ ((run room calls (opened bid offer)).book.clock ≡ (run other_room other_calls (opened bid offer)).book.clock))
 
 -- The tape explains discretion
 
@@ -83,7 +90,14 @@ DiscretionExplained b =
 
 -- so it is after every run
 abbrev pub TapeExplainsDiscretion : Type 0
-TapeExplainsDiscretion = (bid offer room : ℕ) (calls : List Call) → DiscretionExplained (run room calls (opened bid offer)).book
+TapeExplainsDiscretion =
+    (bid offer room : ℕ) (calls : List Call)
+    → let b : Book = (run room calls (opened bid offer)).book in
+    All (λ o. is_mdo o.terms.kind ≡ true
+    → (ranked_in b.market o ≡ reach_in b.market o)
+    ↔ ((ranked_in b.market o ≡ 2 * o.terms.limit)
+    ⊎ ((ranked_in b.market o ≡ b.market.bid + b.market.offer) ⊎ Protected b o)))
+    b.market.orders
 
 -- what a reason says of an order
 abbrev pub Reason : Book → Order → Why → Type 0
@@ -102,7 +116,10 @@ Reasoned b = All (λ o. Reason b o (why b.market o)) b.market.orders
 
 -- so it is after every run
 abbrev pub ReasonsHold : Type 0
-ReasonsHold = (bid offer room : ℕ) (calls : List Call) → Reasoned (run room calls (opened bid offer)).book
+ReasonsHold =
+    (bid offer room : ℕ) (calls : List Call)
+    → let b : Book = (run room calls (opened bid offer)).book in
+    All (λ o. Reason b o (why b.market o)) b.market.orders
 
 -- Never crossed
 
@@ -112,7 +129,10 @@ Uncrossed m = All (λ x. All (λ y. side_of x ≡ Buy → side_of y ≡ Sell →
 
 -- so it is after every run
 abbrev pub NeverCrossed : Type 0
-NeverCrossed = (bid offer room : ℕ) (calls : List Call) → Uncrossed (run room calls (opened bid offer)).book.market
+NeverCrossed =
+    (bid offer room : ℕ) (calls : List Call)
+    → let m : Market = (run room calls (opened bid offer)).book.market in
+    All (λ x. All (λ y. side_of x ≡ Buy → side_of y ≡ Sell → reach_in m x < reach_in m y) m.orders) m.orders
 
 -- Lines within orders
 

@@ -14,12 +14,12 @@ use Rattle.book.proofs.Explains.{reasoned}
 use Rattle.book.proofs.state.Book.why.Goals as goal
 
 pub returns-in_default : goal.returns-in_default
-returns-in_default g c sound =
+returns-in_default g c sound knows =
     let id = c.args.id.now in
     found_none id (vec_items c.args.self.now.market.table.rows) sound.rests (sym (sound.tied.known id) ∙ sym c.in_default.ensures)
 
 pub returns-in_default-row : goal.returns-in_default-row
-returns-in_default-row g c sound =
+returns-in_default-row g c sound knows =
     let id = c.args.id.now in
     let table = c.args.self.now.market.table in
     let found = found_some id (vec_items table.rows) c.in-Some.number sound.rests table.ascending (sym (sound.tied.known id) ∙ sym c.in-Some.ensures) in
@@ -27,7 +27,7 @@ returns-in_default-row g c sound =
 
 pub returns : goal.returns
 unfolding ranked_in
-returns g c sound =
+returns g c sound knows =
     let t = g.T.Tape in
     let here = c.args.self.now in
     let id = c.args.id.now in
@@ -39,7 +39,7 @@ returns g c sound =
     let found = found_some id (vec_items table.rows) k sound.rests table.ascending (sym (sound.tied.known id) ∙ sym c.in-Some.ensures) in
     let rests : resting k orders ≡ Some order = sym c.in-Some-row.ensures in
     let same : found.order ≡ order = some_same found.order order (sym found.rests ∙ rests) in
-    let written : c.saturating_sub-written.result ≡ length (t.lines here.market.tape) = omega (arith, c.saturating_sub-written.ensures, c.free_lines.ensures, sound.room) in
+    let written : c.saturating_sub-written.result ≡ length (t.lines here.market.tape) = omega (arith, c.saturating_sub-written.ensures, c.free_lines.ensures, knows) in
     let told = c.why.ensures written in
     record {
       order = order;
