@@ -1,6 +1,6 @@
 -- An entry that passes its tests: the book is ready for its row, and once the row is swept the entry is carried out. Cite ready,
--- has-place and accepted.
-use Rattle.std.proofs.Common.{◌≡◌, ℕ, ◌+◌, ◌<◌, ◌≤◌, Bool, true, false, not, ◌&&◌, leb, List, length, is_some, Some, None, Ok, vec_items, Option, sym, refl, ap, ◌∙◌, subst, arith}
+-- has_place and accepted.
+use Rattle.std.proofs.Common.{◌≡◌, ℕ, ◌<◌, ◌≤◌, Bool, true, false, not, ◌&&◌, leb, List, length, is_some, Some, None, Ok, vec_items, Option, sym, refl, ap, ◌∙◌, subst, arith}
 use Rattle.std.specs.List.{AllByRecursion as All}
 use Rattle.std.proofs.lemmas.Bool.{leb-false}
 use Rattle.terms.specs.declared.kinds.TimeInForce.{TimeInForce}
@@ -18,7 +18,7 @@ use Rattle.rules.proofs.Numbers.{numbers_ascend, orders_within_places}
 use Rattle.orders.specs.declared.row.Row.{Row}
 use Rattle.orders.specs.Rows.{row_order}
 use Rattle.orders.specs.Changes.{newest_number}
-use Rattle.market.specs.Markets.{market_of, capacity_of}
+use Rattle.market.specs.Markets.{capacity_of}
 use Rattle.book.specs.declared.state.Book.{Book as OpenBook}
 use Rattle.book.specs.Tied.{row_name}
 use Rattle.book.specs.Books.{book_of, Sound}
@@ -26,7 +26,7 @@ use Rattle.book.specs.Carried.{Carried, Brought}
 use Rattle.book.specs.Entering.{entry_test, Ready, HasPlace, Entered}
 use Rattle.book.proofs.Alike.{same_book}
 use Rattle.book.proofs.Calling.{tick_carried, carried_on}
-use Rattle.book.proofs.EntryTests.{name_test, entered_as, entry_passed, Free, test_tells, newest_counted}
+use Rattle.book.proofs.EntryTests.{name_test, entered_as, entry_passed, test_tells, newest_counted}
 
 -- the book, once the entry is counted
 abbrev pub counting : {D T : Type 0} → ℕ → OpenBook D T → OpenBook D T

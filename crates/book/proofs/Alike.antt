@@ -1,4 +1,4 @@
--- Books that agree part by part are equal. Cite same-book.
+-- Books that agree part by part are equal. Cite same_book.
 use Rattle.std.proofs.Common.{◌≡◌, ℕ, ap, ◌∙◌}
 use Rattle.rules.specs.Market.{Market, Book}
 

@@ -1,14 +1,14 @@
 -- What every call has in common: the refusals before the clock moves, room for the lines that it writes, and the run that goes
--- on by one call. Cite early for a refusal before the clock moves, begun-refused and begun for the start of a call, carried_on
+-- on by one call. Cite early for a refusal before the clock moves, begun_refused and begun for the start of a call, carried_on
 -- for its end.
-use Rattle.std.proofs.Common.{◌≡◌, ℕ, ◌+◌, ◌-◌, ◌≤◌, Bool, true, false, ◌&&◌, leb, List, [], ◌∷◌, ◌++◌, length, Some, None, Ok, Err, vec_items, Result, sym, refl, ap, ◌∙◌, subst, arith}
+use Rattle.std.proofs.Common.{◌≡◌, ℕ, ◌+◌, ◌-◌, ◌≤◌, Bool, true, false, leb, List, [], ◌∷◌, ◌++◌, length, Some, None, Ok, Err, vec_items, Result, sym, refl, ap, ◌∙◌, subst, arith}
 use Rattle.std.proofs.lemmas.Bool.{leb-true, and_parts}
 use Rattle.tape.specs.declared.tapes.Tape.{Ghosts as TapeOf}
 use Rattle.directory.specs.declared.directories.Directory.{Ghosts as DirectoryOf}
 use Rattle.rules.specs.declared.refusal.Refusal.{Refusal}
 use Rattle.rules.specs.declared.refusal.Refusal.TheVariants.{Time, TapeShort, NoSuchOrder}
 use Rattle.rules.specs.Limits.{last_moment}
-use Rattle.rules.specs.Market.{Order, Market, Book, with_orders, without}
+use Rattle.rules.specs.Market.{Order, Book, with_orders, without}
 use Rattle.rules.specs.Clock.{settle, at_time}
 use Rattle.rules.specs.Answers.{Answer, cancelled, ticked, refused}
 use Rattle.rules.specs.Calls.{Call, cancel, tick, Outcome, refuse, named, done_at, time_of, names_lawfully, timely, call}

@@ -1,11 +1,11 @@
--- An entry, once the clock is at its time: its tests, and the new row's number and place. Cite name-test for the directory's
--- part of the tests, entry-refused and entry-passed for what follows of them, can-join and has-place for the new row.
-use Rattle.std.proofs.Common.{◌≡◌, ℕ, ◌+◌, ◌<◌, ◌≤◌, Bool, true, false, not, ◌&&◌, leb, ◌⊎◌, List, [], ◌∷◌, map, length, is_some, Some, None, Ok, Err, Option, Result, sym, refl, ap, ◌∙◌, subst, inl, inr, arith}
+-- An entry, once the clock is at its time: its tests, and the new row's number and place. Cite name_test for the directory's
+-- part of the tests, entry_refused and entry_passed for what follows of them, can-join and has_place for the new row.
+use Rattle.std.proofs.Common.{◌≡◌, ℕ, ◌+◌, ◌≤◌, Bool, true, false, leb, ◌⊎◌, List, [], ◌∷◌, map, is_some, Some, None, Ok, Err, Option, Result, sym, refl, ap, ◌∙◌, inl, inr, arith}
 use Rattle.std.specs.List.{AllByRecursion as All}
-use Rattle.terms.specs.Terms.{OrderTerms, is_ioc}
+use Rattle.terms.specs.Terms.{OrderTerms}
 use Rattle.rules.specs.declared.refusal.Refusal.{Refusal}
 use Rattle.rules.specs.declared.refusal.Refusal.TheVariants.{NameTaken, BookFull, EntriesSpent}
-use Rattle.rules.specs.Limits.{most_entries, most_resting}
+use Rattle.rules.specs.Limits.{most_entries}
 use Rattle.rules.specs.Market.{Order, Book}
 use Rattle.rules.specs.Calls.{Outcome, refuse, entry, named, no_place, new_order, swept_in, rested, done_at}
 use Rattle.rules.proofs.Cases.{option_cases}

@@ -1,11 +1,9 @@
 -- The reason that is told of a resting order holds, since the book is what a run of calls leaves. Cite reasoned.
-use Rattle.std.proofs.Common.{◌≡◌, Some, sym, subst}
-use Rattle.std.specs.List.{AllByRecursion as All}
+use Rattle.std.proofs.Common.{sym, subst}
 use Rattle.tape.specs.declared.tapes.Tape.{Ghosts as TapeOf}
 use Rattle.directory.specs.declared.directories.Directory.{Ghosts as DirectoryOf}
-use Rattle.rules.specs.Market.{Order, Book, resting}
-use Rattle.rules.specs.Laws.{Reasoned, Reason}
-use Rattle.rules.specs.Questions.{why}
+use Rattle.rules.specs.Market.{Book}
+use Rattle.rules.specs.Laws.{Reasoned}
 use Rattle.rules.proofs.Why.{reasons_hold}
 use Rattle.market.specs.Markets.{capacity_of}
 use Rattle.book.specs.declared.state.Book.{Book as OpenBook}

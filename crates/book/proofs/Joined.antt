@@ -1,6 +1,6 @@
--- A row that joins with its pair, and one that joins and is dropped again: the directory stays tied to the rows. Cite row-joined
--- with put-added; newest-same and front_same for the row that is dropped.
-use Rattle.std.proofs.Common.{◌≡◌, ℕ, suc, ◌+◌, ◌-◌, ◌<◌, Bool, true, false, ltb, ◌⊎◌, List, [], ◌∷◌, ◌++◌, map, length, take, Some, None, Ok, Err, Option, Result, sym, refl, ap, ◌∙◌, subst, inl, inr, arith, length-append, MatchResult}
+-- A row that joins with its pair, and one that joins and is dropped again: the directory stays tied to the rows. Cite row_joined
+-- with put_added; newest_same and front_same for the row that is dropped.
+use Rattle.std.proofs.Common.{◌≡◌, ℕ, ◌+◌, ◌-◌, ◌<◌, true, false, ltb, ◌⊎◌, List, [], ◌∷◌, ◌++◌, map, length, take, Some, None, Ok, Err, Option, Result, sym, refl, ap, ◌∙◌, inl, inr, arith, length-append, MatchResult}
 use Rattle.std.proofs.lemmas.List.{length-map, map_push, take-map}
 use lib.Seq.{take-append_seam}
 use Rattle.std.proofs.lemmas.Bool.{cases_Bool, lt-ltb}
@@ -9,7 +9,7 @@ use Rattle.directory.specs.declared.directories.PutRefusal.{PutRefusal}
 use Rattle.directory.specs.declared.directories.PutRefusal.TheVariants.{Unlawful, Held, Full}
 use Rattle.directory.specs.Pairs.{Added, RefusedPut, put_refusal}
 use Rattle.rules.specs.Calls.{same_bytes}
-use Rattle.rules.proofs.Cases.{if_true, if_false, none_some}
+use Rattle.rules.proofs.Cases.{if_true, none_some}
 use Rattle.orders.specs.declared.row.Row.{Row}
 use Rattle.orders.specs.Changes.{with_left, SameButShares, newest_number}
 use Rattle.orders.proofs.Dropped.{newest_of_push}

@@ -1,5 +1,5 @@
--- Rows that differ in their shares alone have the same pairs. Cite tied-kept.
-use Rattle.std.proofs.Common.{◌≡◌, ℕ, true, false, List, [], ◌∷◌, map, length, Some, None, Option, sym, refl, ap, ◌∙◌, subst}
+-- Rows that differ in their shares alone have the same pairs. Cite tied_kept.
+use Rattle.std.proofs.Common.{◌≡◌, ℕ, true, false, List, [], ◌∷◌, map, length, Some, Option, sym, refl, ap, ◌∙◌, subst}
 use Rattle.std.proofs.lemmas.List.{length-map}
 use Rattle.rules.specs.Calls.{same_bytes}
 use Rattle.orders.specs.declared.row.Row.{Row}

@@ -1,6 +1,6 @@
--- A book on an emptied directory, an empty table and an empty tape is sound: it is what no call at all leaves. Cite empty-tape
--- and new-book.
-use Rattle.std.proofs.Common.{◌≡◌, ℕ, ◌+◌, true, false, List, [], ◌∷◌, length, is_some, vec_items, Option, sym, refl, ap, ◌∙◌, subst, arith}
+-- A book on an emptied directory, an empty table and an empty tape is sound: it is what no call at all leaves. Cite empty_tape
+-- and new_book.
+use Rattle.std.proofs.Common.{◌≡◌, ℕ, ◌+◌, false, List, [], ◌∷◌, length, is_some, vec_items, Option, sym, refl, ap, ◌∙◌, subst, arith}
 use Rattle.roll.specs.Rolls.{at_place}
 use Rattle.tape.specs.declared.line.Line.{Line}
 use Rattle.tape.specs.declared.tapes.Tape.{Ghosts as TapeOf}

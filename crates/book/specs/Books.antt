@@ -1,5 +1,5 @@
 -- The book as the rule book's book, and what holds of it between calls.
-use Rattle.std.specs.Prelude.{◌≡◌, ℕ, List, vec_items, Option}
+use Rattle.std.specs.Prelude.{◌≡◌, ℕ, List, vec_items}
 use Rattle.tape.specs.declared.tapes.Tape.{Ghosts as TapeOf}
 use Rattle.directory.specs.declared.directories.Directory.{Ghosts as DirectoryOf}
 use Rattle.rules.specs.Market.{Book}

@@ -1,5 +1,5 @@
 -- What ties a directory to the rows: it has the pairs of identifier and entry number of the rows, and no others.
-use Rattle.std.specs.Prelude.{◌≡◌, ℕ, Bool, true, false, List, [], ◌∷◌, length, Some, None, Option}
+use Rattle.std.specs.Prelude.{◌≡◌, ℕ, true, false, List, [], ◌∷◌, length, Some, None, Option}
 use Rattle.rules.specs.Calls.{same_bytes}
 use Rattle.orders.specs.declared.row.Row.{Row}
 use Rattle.orders.specs.Rows.{identifier_bytes}

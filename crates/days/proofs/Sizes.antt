@@ -1,4 +1,4 @@
--- Digits read one by one. Cite on-more for a digit, on-stop where there is none, on-all at the end; minus-first for a sign.
+-- Digits read one by one. Cite on_more for a digit, on_stop where there is none, on_all at the end; minus_first for a sign.
 use Rattle.std.proofs.Common.{◌≡◌, ℕ, ◌+◌, ◌-◌, ◌<◌, ◌≤◌, true, false, eqb, List, [], ◌∷◌, length, get_or, take, drop, Some, None, Option, sym, refl, ap, ◌∙◌, add-one, arith, drop-cons}
 use Rattle.std.proofs.lemmas.List.{drop_all, take_all}
 use Rattle.std.proofs.lemmas.Bool.{eq-eqb}

@@ -1,6 +1,6 @@
 -- Steps round a ring of 128 places, by arithmetic alone. Cite `steps_to` and `steps_one` for the place so many steps on,
 -- `steps_via` and `steps_past` for what lies between two places.
-use Rattle.std.proofs.Common.{◌≡◌, ℕ, ◌+◌, ◌-◌, ◌%◌, ◌<◌, ◌⊎◌, arith}
+use Rattle.std.proofs.Common.{◌≡◌, ℕ, ◌+◌, ◌%◌, ◌<◌, ◌⊎◌, arith}
 use Rattle.directory.specs.Table.{steps}
 
 pub steps_below : (a b : ℕ) → steps a b < 128

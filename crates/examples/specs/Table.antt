@@ -1,6 +1,6 @@
 -- All worked examples, as one table: a question to the definitions, and its answer. Prices, bounds of tickets and identifiers, and
 -- a register read; orders written into a buffer; whole runs of the rule book.
-use Rattle.std.specs.Prelude.{ℕ, ◌≡◌, List, [], ◌∷◌, ◌++◌, map}
+use Rattle.std.specs.Prelude.{ℕ, ◌≡◌, List, ◌++◌, map}
 use Rattle.tape.specs.declared.line.Line.{Line}
 use Rattle.rules.specs.Market.{Book}
 use Rattle.rules.specs.Answers.{Answer as CallAnswer}

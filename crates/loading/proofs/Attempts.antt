@@ -1,5 +1,5 @@
--- One order: what a refused ticket, and an entry that was carried out, make of a book. Cite no-ticket and ticketed.
-use Rattle.std.proofs.Common.{◌≡◌, ℕ, ◌-◌, List, [], length, Ok, Err, Result, sym, refl, ap, ◌∙◌, arith}
+-- One order: what a refused ticket, and an entry that was carried out, make of a book. Cite no_ticket and ticketed.
+use Rattle.std.proofs.Common.{◌≡◌, ℕ, ◌-◌, length, Ok, Err, Result, sym, refl, ap, ◌∙◌, arith}
 use Rattle.terms.specs.Terms.{OrderTerms}
 use Rattle.register.specs.declared.faults.Fault.{Fault}
 use Rattle.register.specs.Faults.{listed_ticket}
@@ -14,7 +14,7 @@ use Rattle.book.specs.Books.{book_of, Sound}
 use Rattle.book.specs.Carried.{Carried, outcome_of}
 use Rattle.loading.specs.declared.faults.LoadFault.{LoadFault}
 use Rattle.loading.specs.declared.faults.LoadFault.TheVariants.{Register}
-use Rattle.loading.specs.Loads.{Attempt, entry_fault, made, attempt_with, attempt}
+use Rattle.loading.specs.Loads.{Attempt, entry_fault, made, attempt_with}
 use Rattle.loading.specs.Loaded.{fault_of, attempt_at, Attempted}
 
 module _ {D T : Type 0} (d : DirectoryOf D) (t : TapeOf T) (time place : ℕ) (o : Listed) where

@@ -1,5 +1,5 @@
--- The law of loads, by the definition. Cite load-lawful.
-use Rattle.std.proofs.Common.{◌≡◌, ℕ, zero, suc, ◌+◌, ◌<◌, ◌≤◌, Bool, true, false, ltb, ◌⊎◌, List, [], ◌∷◌, ◌++◌, length, Some, None, Ok, Err, Option, Result, sym, refl, ap, ◌∙◌, subst, inl, inr, add-zero, arith}
+-- The law of loads, by the definition. Cite load_lawful.
+use Rattle.std.proofs.Common.{◌≡◌, ℕ, zero, suc, ◌+◌, ◌<◌, ◌≤◌, Bool, true, false, ltb, List, [], ◌∷◌, length, Some, None, Ok, Err, Option, Result, sym, refl, ap, ◌∙◌, inl, inr, add-zero, arith}
 use Rattle.std.specs.List.{AllByRecursion as All}
 use Rattle.std.proofs.ByRecursion.{All-append, All-push}
 use Rattle.std.proofs.lemmas.List.{length-append}
@@ -12,12 +12,11 @@ use Rattle.register.specs.Layout.{Listed}
 use Rattle.register.specs.Reading.{Cursor, place_in, read_order, read_next}
 use Rattle.register.proofs.Tails.{order_shortens}
 use Rattle.rules.specs.Answers.{Answer, entered, cancelled, quoted, ticked, refused}
-use Rattle.rules.specs.Calls.{Call, entry}
+use Rattle.rules.specs.Calls.{entry}
 use Rattle.rules.specs.Market.{Book as RuleBook}
 use Rattle.loading.specs.declared.faults.LoadFault.{LoadFault}
-use Rattle.loading.specs.declared.faults.LoadFault.TheVariants.{Register, SlipsFull}
 use Rattle.loading.specs.Faults.{slip_of}
-use Rattle.loading.specs.Loads.{Load, Ended, Attempt, entry_fault, made, with_attempt, stopped_if, go_on, slip_put, accounted, attempt_with, attempt, after_order, next_loaded, load_on, load_of}
+use Rattle.loading.specs.Loads.{Load, Ended, entry_fault, made, with_attempt, stopped_if, go_on, slip_put, accounted, attempt_with, attempt, after_order, next_loaded, load_on, load_of}
 use Rattle.loading.specs.Law.{EntryAt, OfOneOrder, Stops, Lists, LawfulLoad}
 use Rattle.loading.proofs.Layers.{PlainNext, next_plain}
 use Rattle.loading.proofs.Steps.{load_end, load_order}

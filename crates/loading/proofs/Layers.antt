@@ -1,5 +1,5 @@
--- Reading meets faults of fields and of orders only. Cite next-plain.
-use Rattle.std.proofs.Common.{◌≡◌, ℕ, Bool, true, false, not, ◌&&◌, eqb, ◌⊎◌, List, [], ◌∷◌, Some, None, Ok, Err, Option, Result, sym, refl, subst, inl, inr}
+-- Reading meets faults of fields and of orders only. Cite next_plain.
+use Rattle.std.proofs.Common.{◌≡◌, ℕ, Bool, true, false, not, ◌&&◌, eqb, ◌⊎◌, List, [], ◌∷◌, Some, None, Ok, Err, Option, Result, refl, inl, inr}
 use Rattle.register.specs.declared.faults.Fault.{Fault}
 use Rattle.register.specs.declared.faults.Fault.TheVariants.{CutShort, Malformed}
 use Rattle.register.specs.Faults.{fault_layer}

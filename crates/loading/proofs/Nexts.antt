@@ -1,5 +1,5 @@
--- What a reader hands out, once it is known which way it went. Cite order-came, fault-came and nothing-came.
-use Rattle.std.proofs.Common.{◌≡◌, ℕ, ◌<◌, List, length, Some, None, Ok, Err, Option, Result, sym, ap, ◌∙◌, subst}
+-- What a reader hands out, once it is known which way it went. Cite order_came, fault_came and nothing_came.
+use Rattle.std.proofs.Common.{◌≡◌, ℕ, ◌<◌, List, length, Some, None, Ok, Err, Result, sym, ap, ◌∙◌, subst}
 use Rattle.register.specs.declared.faults.Fault.{Fault}
 use Rattle.register.specs.declared.listed.Listed.{Listed}
 use Rattle.register.specs.Parts.{listed_of, next_read, Placed}

@@ -1,6 +1,6 @@
 -- Orders of a book, written one after another by their index: what is left to write comes to the same as writing them all.
--- Cite written_none at the start, written-more and written-past after a turn, written_all and written-half at the end, then book-written.
-use Rattle.std.proofs.Common.{◌≡◌, ℕ, zero, suc, ◌+◌, ◌≤◌, Bool, true, false, List, [], ◌∷◌, ◌++◌, map, length, drop, Some, None, Ok, Err, Option, Result, sym, refl, ap, ◌∙◌, subst, append-nil, add-one, arith}
+-- Cite written_none at the start, written_more and written_past after a turn, written_all and written_half at the end, then book_written.
+use Rattle.std.proofs.Common.{◌≡◌, ℕ, zero, suc, ◌+◌, ◌≤◌, List, [], ◌∷◌, ◌++◌, map, length, drop, Some, None, Ok, Err, Result, sym, refl, ap, ◌∙◌, subst, append-nil, add-one, arith}
 use Rattle.std.specs.List.{slice_get, AllByRecursion as All}
 use Rattle.std.proofs.lemmas.List.{drop_all}
 use Rattle.register.specs.Layout.{Listed}

@@ -1,6 +1,6 @@
 -- A load that has come so far: its definition, begun at the start, comes to what the definition makes of the rest from here.
--- Cite so-far-none at the start, so-far-entered and so-far-slipped after an order, and finished, broken and slips-full at the end.
-use Rattle.std.proofs.Common.{◌≡◌, ℕ, zero, suc, ◌+◌, ◌-◌, ◌<◌, ◌≤◌, Bool, true, false, ltb, List, [], ◌∷◌, ◌++◌, length, Some, None, Ok, Err, Option, Result, sym, refl, ap, ◌∙◌, subst, append_assoc, append-nil, add-zero, arith}
+-- Cite so_far_none at the start, so_far_entered and so_far_slipped after an order, and finished, broken and slips_full at the end.
+use Rattle.std.proofs.Common.{◌≡◌, ℕ, suc, ◌+◌, ◌-◌, ◌<◌, ◌≤◌, true, false, ltb, List, [], ◌∷◌, ◌++◌, length, Some, None, Ok, Err, Option, Result, sym, refl, ap, ◌∙◌, append_assoc, append-nil, add-zero, arith}
 use Rattle.std.proofs.lemmas.List.{length-append}
 use Rattle.std.proofs.lemmas.Bool.{lt-ltb, le-ltb}
 use Rattle.terms.specs.Terms.{OrderTerms}
@@ -9,12 +9,12 @@ use Rattle.register.specs.Faults.{listed_ticket}
 use Rattle.register.specs.declared.listed.Listed.{Listed as ListedOrder}
 use Rattle.register.specs.Layout.{Listed}
 use Rattle.register.specs.Parts.{listed_of}
-use Rattle.register.specs.Reading.{Cursor, place_in, read_next}
+use Rattle.register.specs.Reading.{place_in, read_next}
 use Rattle.roll.specs.declared.log.Roll.{Roll}
 use Rattle.roll.specs.Rolls.{records, room_left}
 use Rattle.tape.specs.declared.tapes.Tape.{Ghosts as TapeOf}
 use Rattle.directory.specs.declared.directories.Directory.{Ghosts as DirectoryOf}
-use Rattle.rules.specs.Calls.{Call, Outcome}
+use Rattle.rules.specs.Calls.{Call}
 use Rattle.rules.specs.Market.{Book as RuleBook}
 use Rattle.rules.specs.Runs.{run}
 use Rattle.market.specs.Markets.{capacity_of}
@@ -25,7 +25,7 @@ use Rattle.loading.specs.declared.faults.LoadFault.TheVariants.{Register, SlipsF
 use Rattle.loading.specs.declared.slips.Slip.{Slip}
 use Rattle.loading.specs.declared.slips.Loaded.{Loaded}
 use Rattle.loading.specs.Faults.{slip_of}
-use Rattle.loading.specs.Loads.{Load, Ended, Attempt, made, with_attempt, with_one_entered, with_slip, stopped_if, go_on, slip_put, accounted, attempt_with, attempt, after_order, next_loaded, load_on, load_answer}
+use Rattle.loading.specs.Loads.{Load, Ended, Attempt, made, with_attempt, stopped_if, go_on, slip_put, accounted, attempt_with, attempt, load_on, load_answer}
 use Rattle.loading.specs.Loaded.{fault_of, attempt_at, Attempted, load_into, LoadedInto}
 use Rattle.loading.proofs.Lawful.{load_lawful}
 use Rattle.loading.proofs.Nexts.{Came}
@@ -215,7 +215,7 @@ module _ {D T : Type 0} (d : DirectoryOf D) (t : TapeOf T) (before : Book D T) (
               count = omega (arith, long, s.count);
               sound = tried.sound;
               capacity = tried.capacity ∙ s.capacity;
-            same_room = tried.room ∙ s.same_room;
+              same_room = tried.room ∙ s.same_room;
             }
 
         pub slips_full : (roll_after : Roll Slip) → records roll_after ≡ records roll_here → room_left roll_here ≡ 0 → room_left roll_after ≡ 0 → LoadedInto d t before after roll roll_after time register (Err (SlipsFull o.place))

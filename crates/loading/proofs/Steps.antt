@@ -1,4 +1,4 @@
--- One step of the definition of a load: at the end, at a fault, and at an order. Cite load-end, load-fault and load-order.
+-- One step of the definition of a load: at the end, at a fault, and at an order. Cite load_end, load_fault and load_order.
 use Rattle.std.proofs.Common.{◌≡◌, ℕ, zero, suc, ◌<◌, List, Some, None, Ok, Err, sym, refl, ap, arith}
 use Rattle.register.specs.declared.faults.Fault.{Fault}
 use Rattle.register.specs.Reading.{Cursor, place_in, read_next}

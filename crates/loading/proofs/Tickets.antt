@@ -1,5 +1,5 @@
--- A sound book has at most 64 orders, and each is listed as a lawful ticket. Cite at_most and tickets-again.
-use Rattle.std.proofs.Common.{◌≡◌, ℕ, ◌≤◌, List, [], ◌∷◌, map, length, vec_items, sym, subst}
+-- A sound book has at most 64 orders, and each is listed as a lawful ticket. Cite at_most and tickets_again.
+use Rattle.std.proofs.Common.{◌≡◌, ◌≤◌, List, [], ◌∷◌, map, length, vec_items, sym, subst}
 use Rattle.std.specs.List.{AllByRecursion as All}
 use Rattle.tape.specs.declared.tapes.Tape.{Ghosts as TapeOf}
 use Rattle.directory.specs.declared.directories.Directory.{Ghosts as DirectoryOf}

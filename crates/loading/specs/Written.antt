@@ -6,7 +6,7 @@ use Rattle.register.specs.Layout.{Listed}
 use Rattle.rules.specs.Market.{Order, Book}
 use Rattle.writing.specs.declared.fill.NoRoom.{NoRoom}
 use Rattle.writing.specs.Filling.{fresh, room, orders_fit, whole_orders, with_orders}
-use Rattle.writing.specs.Orders.{order_of, draft_of}
+use Rattle.writing.specs.Orders.{order_of}
 use Rattle.writing.specs.Refusal.{mark_if}
 use Rattle.writing.specs.RoundTrip.{ReadsAs, with_left}
 

@@ -1,16 +1,16 @@
 -- A round over the rows is the rule book's sweep of each order, as they rested when the round began: rows stay in their
--- places, a row that has no shares left is swept in vain, and only shares differ. Cite round-passes and round-sweeps.
-use Rattle.std.proofs.Common.{◌≡◌, ℕ, zero, suc, ◌+◌, ◌<◌, ◌≤◌, Bool, true, false, eqb, ltb, leb, ◌⊎◌, List, [], ◌∷◌, map, length, get_or, drop, Some, None, Option, sym, refl, ap, ◌∙◌, subst, inl, inr, arith}
+-- places, a row that has no shares left is swept in vain, and only shares differ. Cite round_passes and round_sweeps.
+use Rattle.std.proofs.Common.{◌≡◌, ℕ, zero, suc, ◌+◌, ◌<◌, ◌≤◌, Bool, true, false, eqb, ltb, leb, ◌⊎◌, List, [], ◌∷◌, length, get_or, drop, Some, None, Option, sym, refl, ap, ◌∙◌, inl, inr, arith}
 use Rattle.terms.specs.Sides.{opposite}
 use Rattle.terms.specs.Prices.{reach}
 use Rattle.terms.specs.Terms.{OrderTerms}
 use Rattle.terms.specs.Made.{terms_of}
 use Rattle.std.proofs.lemmas.List.{get_or-map, get_or_default, length-map, drop_more}
-use Rattle.std.proofs.lemmas.Bool.{cases_Bool, and_parts, ltb-true}
-use Rattle.rules.specs.Market.{Order, Market, side_of, less, lowered, resting, lower, those, reach_in, period_runs}
+use Rattle.std.proofs.lemmas.Bool.{cases_Bool, and_parts}
+use Rattle.rules.specs.Market.{Order, Market, less, lowered, resting, lower, those, reach_in, period_runs}
 use Rattle.rules.specs.Priority.{next_partner, partner_for}
 use Rattle.rules.specs.Sweep.{lines, trade, sweep, sweep_each}
-use Rattle.rules.proofs.Cases.{if_both, if_true, if_false, option_none, option_some}
+use Rattle.rules.proofs.Cases.{if_both, if_true, if_false}
 use Rattle.rules.proofs.Lasting.{sweep_keep, each_keep}
 use Rattle.rules.proofs.Numbers.{rows_sweep}
 use Rattle.orders.specs.declared.row.Row.{Row}

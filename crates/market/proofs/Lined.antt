@@ -1,11 +1,10 @@
--- A sweep, line by line. Cite lines-go for a line, lines-gone and lines-alone where it ends, room-for-line for the tape.
-use Rattle.std.proofs.Common.{◌≡◌, ℕ, zero, suc, ◌+◌, ◌≤◌, Bool, true, false, ◌&&◌, List, [], ◌∷◌, ◌++◌, length, is_some, Some, None, fold, Option, sym, refl, ap, ◌∙◌, arith, length-append}
+-- A sweep, line by line. Cite lines_go for a line, lines_gone and lines_alone where it ends, room-for-line for the tape.
+use Rattle.std.proofs.Common.{◌≡◌, ℕ, zero, suc, ◌+◌, ◌≤◌, Bool, true, false, ◌&&◌, List, [], ◌∷◌, length, Some, None, fold, Option, sym, refl, ap, ◌∙◌, arith, length-append}
 use Rattle.terms.specs.Sides.{opposite, same_side, meets}
-use Rattle.terms.specs.Prices.{reach}
 use Rattle.terms.specs.declared.kinds.Side.{Side}
 use Rattle.terms.specs.declared.kinds.Side.TheVariants.{Buy, Sell}
 use Rattle.tape.specs.declared.line.Line.{Line}
-use Rattle.rules.specs.Market.{Order, Market, side_of, end_of, ranked_in, reach_in, resting, lower, with_orders}
+use Rattle.rules.specs.Market.{Order, Market, side_of, ranked_in, reach_in, resting, lower, with_orders}
 use Rattle.rules.specs.Priority.{ahead, better_of, next_partner, partner_for, line_price}
 use Rattle.rules.specs.Sweep.{depletes, traded, after_trade, recorded, trade, lines, sweep}
 use Rattle.rules.proofs.Cases.{option_none, option_some}

@@ -1,6 +1,6 @@
--- One turn of a round, whether the row at its index is woken or not. Cite row-there for a row, round-turn for what is left of the
--- round, absent-turn for the orders that are not there, room-turn for the tape.
-use Rattle.std.proofs.Common.{◌≡◌, ℕ, zero, suc, ◌+◌, ◌<◌, ◌≤◌, Bool, true, false, ◌&&◌, ◌⊎◌, List, [], ◌∷◌, length, get_or, drop, None, sym, refl, ap, ◌∙◌, inl, inr, arith}
+-- One turn of a round, whether the row at its index is woken or not. Cite row_there for a row, round_turn for what is left of the
+-- round, absent_turn for the orders that are not there, room_turn for the tape.
+use Rattle.std.proofs.Common.{◌≡◌, ℕ, zero, suc, ◌+◌, ◌<◌, ◌≤◌, Bool, true, false, ◌&&◌, ◌⊎◌, List, [], ◌∷◌, length, get_or, drop, None, sym, ap, ◌∙◌, inl, inr, arith}
 use Rattle.std.proofs.lemmas.List.{get_or_default, drop_all}
 use Rattle.std.proofs.lemmas.Bool.{cases_Bool}
 use Rattle.terms.specs.Terms.{OrderTerms}

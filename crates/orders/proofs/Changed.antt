@@ -1,7 +1,7 @@
 -- One row changed in place, as the rule book changes its list of orders. A change that alters only the order with the number k
--- is By-number; since entry numbers ascend, no other row has that number, so the change of the list is the change of that one
--- row. Cite: lower-at, without_at for the row at an index, absent where no order has the number,
--- rising-set for the ascending numbers, only-shares for what stays of the rows.
+-- is ByNumber; since entry numbers ascend, no other row has that number, so the change of the list is the change of that one
+-- row. Cite: lower_at, without_at for the row at an index, absent where no order has the number,
+-- rising_set for the ascending numbers, only_shares for what stays of the rows.
 use Rattle.std.proofs.Common.{◌≡◌, ℕ, zero, suc, ◌-◌, ◌<◌, ◌≤◌, true, ◌&&◌, eqb, ltb, leb, List, [], ◌∷◌, map, length, get_or, set, Some, None, sym, refl, ap, ◌∙◌, inl, inr, arith}
 use Rattle.std.proofs.lemmas.List.{map-set, get_or-map, set-get_or, get_or-set_other, length-set}
 use Rattle.std.proofs.lemmas.Bool.{ltb-true, lt-ltb, le-ltb, leb-true, leb-false, eqb-false, eq-eqb, ne_eqb, and_parts, cases_Bool}

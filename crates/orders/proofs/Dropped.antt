@@ -1,6 +1,6 @@
--- The newest row can be dropped: it has the highest entry number, so that its order alone leaves. Cite: newest-gone for the
--- orders, rising-front for the ascending numbers.
-use Rattle.std.proofs.Common.{◌≡◌, ℕ, ◌<◌, true, eqb, ltb, List, [], ◌∷◌, ◌++◌, Some, None, Option, sym, refl, ap, ◌∙◌, subst, inl, inr, append-nil, arith}
+-- The newest row can be dropped: it has the highest entry number, so that its order alone leaves. Cite: newest_gone for the
+-- orders, rising_front for the ascending numbers.
+use Rattle.std.proofs.Common.{◌≡◌, ℕ, ◌<◌, true, eqb, ltb, List, [], ◌∷◌, ◌++◌, Some, None, Option, sym, refl, ap, ◌∙◌, inl, inr, append-nil, arith}
 use Rattle.std.proofs.lemmas.Bool.{ltb-true, eq-eqb, and_parts, and_from, cases_Bool}
 use Rattle.std.specs.Option.{option_to_list}
 use Rattle.rules.specs.Market.{Order, without}

@@ -1,4 +1,4 @@
--- A scan over the rows is the rule book's fold over the orders that rest. Cite scanned for the whole, scan-more for a turn.
+-- A scan over the rows is the rule book's fold over the orders that rest. Cite scanned for the whole, scan_more for a turn.
 use Rattle.std.proofs.Common.{◌≡◌, ℕ, ◌+◌, ◌<◌, Bool, true, false, List, [], ◌∷◌, length, get_or, take, fold, sym, refl, ap, ◌∙◌}
 use Rattle.std.proofs.lemmas.List.Sums.{fold_more}
 use Rattle.rules.specs.Market.{Order}

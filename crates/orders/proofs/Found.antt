@@ -1,5 +1,5 @@
 -- A row that rests and has the entry number is what `resting` finds; any other row is passed over. By the definitions, one row
--- at a time. Cite: found_here, passed_over at a row that a loop stands at, rests-here for what a loop that found it says; the
+-- at a time. Cite: found_here, passed_over at a row that a loop stands at, rests_here for what a loop that found it says; the
 -- count- lemmas for a loop that counts what rests.
 use Rattle.std.proofs.Common.{◌≡◌, ℕ, suc, ◌+◌, ◌<◌, ◌≤◌, true, false, eqb, List, [], ◌∷◌, length, get_or, drop, Some, None, sym, refl, ap, ◌∙◌, arith}
 use Rattle.std.proofs.lemmas.List.{at_drop_more, get_or_read}

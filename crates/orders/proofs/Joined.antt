@@ -1,5 +1,5 @@
 -- Rows side by side: their orders are those of both parts, and a row above the newest number keeps the numbers ascending. By
--- induction over the first part. Cite: orders-in-append, orders-in-one, rising-push; newest-last for what `newest` reads.
+-- induction over the first part. Cite: orders_in_append, orders_in_one, rising_push; newest_last for what `newest` reads.
 use Rattle.std.proofs.Common.{◌≡◌, ℕ, zero, suc, ◌<◌, true, ltb, List, [], ◌∷◌, ◌++◌, length, get_or, sym, refl, ap, ◌∙◌, inl, inr, arith}
 use Rattle.std.proofs.lemmas.Bool.{lt-ltb, and_parts, and_from, cases_Bool}
 use Rattle.orders.specs.declared.row.Row.{Row}

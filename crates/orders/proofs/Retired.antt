@@ -1,5 +1,5 @@
 -- A row that rests no more can be dropped: the orders stay, and so do ascending numbers. By induction over the rows before it.
--- Cite: orders-in-dropped, rising-dropped for the row between two parts; rests-more, first-here for a loop over rows that rest.
+-- Cite: orders_in_dropped, rising_dropped for the row between two parts; rests_more, first_here for a loop over rows that rest.
 use Rattle.std.proofs.Common.{◌≡◌, ℕ, suc, ◌+◌, ◌<◌, ◌≤◌, true, false, ltb, List, [], ◌∷◌, ◌++◌, map, length, get_or, take, drop, sym, refl, ap, ◌∙◌, subst, arith, drop-cons}
 use Rattle.std.proofs.lemmas.List.{take_more, map_push, length-map, take-append-drop, take_all, get_or_read}
 use Rattle.std.proofs.lemmas.Bool.{ltb-true, lt-ltb, le-ltb, and_parts, and_from}

@@ -1,5 +1,5 @@
 -- What does not depend on the tape: periods and prices are the same beside every tape.
--- Cite: end-still, reach-still; a ranked price computes, unfolding ranked-in.
+-- Cite: end_still, reach_still; a ranked price computes, unfolding ranked_in.
 use Rattle.std.proofs.Common.{◌≡◌, List, is_some, refl, ap}
 use Rattle.terms.specs.Prices.{reach}
 use Rattle.terms.specs.declared.kinds.Side.{Side}

@@ -1,5 +1,5 @@
 -- What a line does besides lowering rows.
-use Rattle.std.specs.Prelude.{ℕ, ◌+◌, Bool, true, false, List, Some}
+use Rattle.std.specs.Prelude.{ℕ, ◌+◌, Bool, true, false, Some}
 use Rattle.terms.specs.declared.kinds.Side.{Side}
 use Rattle.tape.specs.declared.line.Mark.{Mark}
 use Rattle.tape.specs.declared.line.Mark.TheVariants.{Nothing}

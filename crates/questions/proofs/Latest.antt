@@ -1,5 +1,5 @@
 -- The latest mark, sought from the newest line back: a line with the mark is the latest of those up to it, and one without may
--- be left out. Cite: latest-here, latest-before at a place, line-there for that a line stands at it.
+-- be left out. Cite: latest_here, latest_before at a place, line_there for that a line stands at it.
 use Rattle.std.proofs.Common.{◌≡◌, ℕ, zero, suc, ◌+◌, ◌-◌, ◌≤◌, true, false, cond, List, [], ◌∷◌, ◌++◌, length, take, Some, None, sym, refl, ap, ◌∙◌, arith}
 use Rattle.std.proofs.lemmas.List.{length-take-le}
 use Rattle.std.proofs.lemmas.Bool.{cond-true, cond-false}

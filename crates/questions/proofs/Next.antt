@@ -1,4 +1,4 @@
--- The scan for the next ranked: the best so far and one row more. Cite: next-none before the first row, next-turn for a turn;
+-- The scan for the next ranked: the best so far and one row more. Cite: next_none before the first row, next_turn for a turn;
 -- passed_over, first, taken and kept for what becomes of the best so far; itself, not_back for what `ranks_before` is.
 use Rattle.std.proofs.Common.{◌≡◌, ℕ, ◌+◌, ◌<◌, Bool, true, false, ◌&&◌, ◌⊎◌, List, [], ◌∷◌, ◌++◌, length, get_or, take, Some, None, Option, sym, refl, ap, ◌∙◌, subst, inl, inr}
 use Rattle.std.proofs.ByRecursion.{All-weaker, All-push, has_push, has_append_left}

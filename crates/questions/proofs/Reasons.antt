@@ -1,5 +1,5 @@
 -- The reasons in the order in which they are told, of an order that ranks at `price` where the midpoint is `middle`. Cite
--- no-mdo-told, at-limit-told, at-midpoint-told, without-qdp-told, with-qdp-told, and protected-told for what QDP leaves.
+-- no_mdo_told, at_limit_told, at_midpoint_told, without_qdp_told, with_qdp_told, and protected_told for what QDP leaves.
 use Rattle.std.proofs.Common.{◌≡◌, ℕ, ◌+◌, ◌*◌, true, false, eqb, List, Option, sym, ap, ◌∙◌}
 use Rattle.std.proofs.lemmas.Bool.{eq-eqb, ne_eqb}
 use Rattle.terms.specs.Terms.{is_mdo}

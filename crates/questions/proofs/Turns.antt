@@ -1,5 +1,5 @@
--- One row more of a scan over the table. Cite: orders-more for the orders that were seen; for the figures of a side
--- nothing-counted and nothing-shared, then count-more or count_same, and shares-more.
+-- One row more of a scan over the table. Cite: orders_more for the orders that were seen; for the figures of a side
+-- nothing_counted and nothing_shared, then count_more or count_same, and shares_more.
 use Rattle.std.proofs.Common.{◌≡◌, ℕ, ◌+◌, ◌<◌, ◌≤◌, Bool, true, false, cond, List, [], ◌∷◌, ◌++◌, length, get_or, take, sym, refl, ap, ◌∙◌, arith}
 use Rattle.std.proofs.lemmas.List.{take_more}
 use Rattle.std.proofs.lemmas.List.Sums.{sum_by-append}

@@ -1,6 +1,6 @@
 -- Reading field after field: how far a reading has come, and what the next field makes of it.
--- Cite begun, then identified, further or four-further for each field that was read, and unidentified, stopped,
--- four-stopped or finished at the end.
+-- Cite begun, then identified, further or four_further for each field that was read, and unidentified, stopped,
+-- four_stopped or finished at the end.
 use Rattle.std.proofs.Common.{◌≡◌, ℕ, Bool, true, false, eqb, List, [], ◌∷◌, length, Ok, Err, Result, sym, refl, ap, ◌∙◌}
 use Rattle.terms.specs.declared.kinds.Draft.{Draft}
 use Rattle.register.specs.declared.faults.Fault.{Fault}

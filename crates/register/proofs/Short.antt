@@ -1,5 +1,5 @@
--- The short name, made by copying at most 12 bytes of the identifier over 12 blanks. Cite copied-is-short
--- for the copy, is-short for the comparison.
+-- The short name, made by copying at most 12 bytes of the identifier over 12 blanks. Cite copied_is_short
+-- for the copy, is_short for the comparison.
 use Rattle.std.proofs.Common.{◌≡◌, ℕ, zero, suc, ◌-◌, ◌<◌, ◌≤◌, min, Bool, ◌⊎◌, List, [], ◌∷◌, ◌++◌, length, take, drop, replicate, Decides, sym, refl, ap, ◌∙◌, subst, inl, inr, arith, rules}
 use native.Mathlib.Nat.{sub-zero, suc-sub-suc, zero-sub}
 use Rattle.std.specs.Str.{bytes_eq}

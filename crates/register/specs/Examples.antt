@@ -1,5 +1,5 @@
 -- Worked examples, as one table: a question to the definitions, and its answer. The quote is 1000 by 1001.
-use Rattle.std.specs.Prelude.{◌≡◌, ℕ, Bool, true, false, List, [], ◌∷◌, map, length, replicate, ℤ, pos, negsuc, Some, None, Ok, Err, codes, Option, Result}
+use Rattle.std.specs.Prelude.{◌≡◌, ℕ, true, false, List, [], ◌∷◌, map, length, replicate, ℤ, pos, negsuc, Some, None, Ok, Err, codes, Option, Result}
 use Rattle.terms.specs.declared.kinds.Side.TheVariants.{Buy, Sell}
 use Rattle.terms.specs.declared.kinds.Kind.TheVariants.{HiddenMdo}
 use Rattle.terms.specs.declared.kinds.TimeInForce.TheVariants.{Rest}

@@ -5,7 +5,6 @@ use Rattle.terms.specs.declared.kinds.Draft.{Draft}
 use Rattle.terms.specs.declared.lawful.Ticket.{Ticket as LawfulTicket}
 use Rattle.terms.specs.Terms.{OrderTerms, ticket_from}
 use Rattle.terms.specs.Made.{ticket_terms}
-use Rattle.terms.specs.declared.kinds.Refusal.{Refusal}
 use Rattle.terms.specs.Codes.{refusal_number}
 use Rattle.register.specs.declared.faults.Fault.{Fault}
 use Rattle.register.specs.declared.faults.Fault.TheVariants.{CutShort, Malformed, Ticket}

@@ -1,5 +1,5 @@
 -- Numbers in bytes, most significant byte first.
-use Rattle.std.specs.Prelude.{ℕ, ◌+◌, ◌-◌, ◌*◌, ◌/◌, ◌%◌, Bool, true, false, List, [], ◌∷◌, ℤ, pos, negsuc, fold, nat_lt}
+use Rattle.std.specs.Prelude.{ℕ, ◌+◌, ◌-◌, ◌*◌, ◌/◌, ◌%◌, true, false, List, [], ◌∷◌, ℤ, pos, negsuc, fold, nat_lt}
 
 abbrev pub number_from : List ℕ → ℕ
 number_from bs = fold (λ n b. n * 256 + b) 0 bs

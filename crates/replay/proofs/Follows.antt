@@ -1,10 +1,10 @@
--- Calls made one after another make the rule book's run. Cite followed-none and followed-more.
-use Rattle.std.proofs.Common.{◌≡◌, ℕ, ◌+◌, ◌-◌, ◌<◌, List, [], ◌∷◌, ◌++◌, length, get_or, take, sym, refl, ap, ◌∙◌, subst, arith}
+-- Calls made one after another make the rule book's run. Cite followed_none and followed_more.
+use Rattle.std.proofs.Common.{◌≡◌, ℕ, ◌+◌, ◌-◌, ◌<◌, List, [], ◌∷◌, ◌++◌, length, get_or, take, sym, refl, ap, ◌∙◌, arith}
 use Rattle.std.proofs.lemmas.List.{take_more, map_push}
 use Rattle.tape.specs.declared.tapes.Tape.{Ghosts as TapeOf}
 use Rattle.directory.specs.declared.directories.Directory.{Ghosts as DirectoryOf}
 use Rattle.rules.specs.Answers.{Answer as RuleAnswer}
-use Rattle.rules.specs.Calls.{Call as RuleCall, Outcome, call}
+use Rattle.rules.specs.Calls.{call}
 use Rattle.rules.specs.Market.{Book as RuleBook}
 use Rattle.rules.specs.Runs.{Run, run}
 use Rattle.rules.proofs.Runs.{answered, run_push}

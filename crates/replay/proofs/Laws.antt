@@ -1,4 +1,4 @@
--- The laws of the rule book, of runs that a book has made. Cite law-of.
+-- The laws of the rule book, of runs that a book has made. Cite law_of.
 use Rattle.std.proofs.Common.{◌≡◌, ℕ, List, sym, subst}
 use Rattle.rules.specs.Calls.{Call}
 use Rattle.rules.specs.Runs.{Run, opened, run}

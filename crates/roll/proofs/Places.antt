@@ -2,7 +2,6 @@
 -- `place_past` where none is.
 use Rattle.std.proofs.Common.{◌≡◌, ℕ, zero, suc, ◌-◌, ◌<◌, ◌≤◌, min, List, length, get_or, take, Some, None, sym, refl, ap, ◌∙◌, not-suc-le-zero, arith, length-take, get_or-take}
 use Rattle.std.proofs.lemmas.Option.{slice_get-get_or, slice_get_past}
-use Rattle.std.specs.List.{slice_get}
 use Rattle.roll.specs.Rolls.{at_place}
 
 pub place_past : {T : Type 0} (xs : List T) (place : ℕ) → length xs < place → at_place xs place ≡ None

@@ -1,6 +1,6 @@
 -- Two orders are apart when neither meets the other. A sweep leaves its taker apart from all, and calmer reaches stay apart;
 -- so sweeps, one after another, strike their takers off the numbers that may still meet somebody.
--- Cite: Agree, sweep-but for one sweep, each-apart for several, each-calm.
+-- Cite: Agree, sweep_but for one sweep, each_apart for several, each_calm.
 use Rattle.std.proofs.Common.{◌≡◌, ℕ, false, eqb, ◌⊎◌, List, [], ◌∷◌, length, is_some, Some, None, sym, refl, ap, ◌∙◌, subst, inl, inr, arith}
 use Rattle.std.proofs.lemmas.Bool.{lt-leb, leb-false, eqb-false, and_cases, true≢false}
 use Rattle.terms.specs.Sides.{opposite, meets, same_side}

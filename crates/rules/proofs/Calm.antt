@@ -1,6 +1,6 @@
 -- A sweep only calms: the rows are those of before with fewer shares, the quote stays, periods begin and none ends. And a
 -- sweep ends with its taker gone or with no partner left. By induction over its lines.
--- Cite: Calm, calm-then, lines-calm, lines-finish.
+-- Cite: Calm, calm_then, lines_calm, lines_finish.
 use Rattle.std.proofs.Common.{◌≡◌, ℕ, zero, suc, ◌≤◌, Bool, true, false, ◌⊎◌, List, [], ◌∷◌, length, Some, None, refl, ◌∙◌, subst, inl, inr, arith}
 use Rattle.terms.specs.declared.kinds.Side.{Side}
 use Rattle.terms.specs.declared.kinds.Side.TheVariants.{Buy, Sell}

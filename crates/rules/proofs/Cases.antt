@@ -1,5 +1,5 @@
 -- Cases of a test and of an option, with what they tell. Where a definition branches by `elim`, a fact P of it follows from P
--- of each branch. Cite: if-both, option-both with the P written out; the others where an equation is wanted.
+-- of each branch. Cite: if_both, option_both with the P written out; the others where an equation is wanted.
 use Rattle.std.proofs.Common.{◌≡◌, ℕ, Bool, true, false, ◌⊎◌, Some, None, Option, refl, inl, inr, arith}
 use Rattle.rules.specs.declared.refusal.Refusal.{Refusal}
 use Rattle.rules.specs.Answers.{refused}

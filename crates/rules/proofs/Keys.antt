@@ -1,5 +1,5 @@
 -- Going first by three keys is a strict order, and total where the entry numbers differ.
--- Cite: first-not-back, first-not-itself, first_then, first-through (of what does not go first), first-total.
+-- Cite: first_not_back, first_not_itself, first_then, first_through (of what does not go first), first_total.
 use Rattle.std.proofs.Common.{◌≡◌, ℕ, true, false, arith}
 use Rattle.std.proofs.lemmas.Bool.Decides.{nat_tests}
 use Rattle.terms.specs.declared.kinds.Side.{Side}

@@ -1,7 +1,7 @@
 -- The inductions, once for all laws: what lasts over a line lasts over a sweep, over sweeps, over a settling; what lasts
 -- over each call's parts lasts over whole runs. An invariant is then only its step.
--- Cite: lines_keep, sweep-keep, each_keep, ends-keep; Lasts and run-lasts for an invariant of the market, run-keeps for one
--- of the book; call-ways, enter-ways, cancel-ways for what holds of every way through a call.
+-- Cite: lines_keep, sweep_keep, each_keep, ends_keep; Lasts and run_lasts for an invariant of the market, run_keeps for one
+-- of the book; call_ways, enter_ways, cancel_ways for what holds of every way through a call.
 -- what lasts from line to line lasts over a sweep
 use Rattle.std.proofs.Common.{◌≡◌, ℕ, zero, suc, ◌+◌, ◌<◌, ◌≤◌, true, false, leb, List, [], ◌∷◌, length, Some, None, refl, ◌∙◌, subst}
 use Rattle.std.proofs.lemmas.Bool.{leb-false, leb-true, and_parts}
@@ -18,7 +18,6 @@ use Rattle.rules.specs.Examples.{id}
 use Rattle.rules.specs.Limits.{most_entries}
 use Rattle.rules.specs.Market.{Market, Order, resting, reach_in, Book, with_orders, without}
 use Rattle.rules.specs.Priority.{partner_for}
-use Rattle.rules.specs.Questions.{why}
 use Rattle.rules.specs.Runs.{run}
 use Rattle.rules.specs.Sweep.{lines, trade, sweep, sweep_each}
 use Rattle.rules.proofs.Cases.{option_both, if_both, if_false, if_true}

@@ -1,6 +1,6 @@
 -- The tape tells which periods run, and so why an MDO has no discretion. Kept over every line, every end of a period and every
 -- call: the lines with a side's mark lie a period or more before now, or the latest of them began the period that runs.
--- Cite: Marked, run-marked, run-later, cause-of; the law is tape-explains-discretion.
+-- Cite: Marked, run_marked, run_later, cause_of; the law is tape_explains_discretion.
 use Rattle.std.proofs.Common.{◌≡◌, ℕ, ◌+◌, ◌*◌, ◌<◌, ◌≤◌, Bool, true, false, ◌&&◌, ◌⊎◌, ◌↔◌, List, [], ◌∷◌, ◌++◌, length, is_some, Some, None, Option, sym, refl, ap, ◌∙◌, subst, inl, inr, append_assoc, arith}
 use Rattle.std.proofs.ByRecursion.{All-push, has_append_right, All-weaker, all-has}
 use Rattle.std.proofs.lemmas.Bool.{and_parts, and_from}
@@ -11,13 +11,12 @@ use Rattle.terms.specs.declared.kinds.Side.TheVariants.{Buy, Sell}
 use Rattle.tape.specs.declared.line.Line.{Line}
 use Rattle.tape.specs.declared.line.Mark.{Mark}
 use Rattle.tape.specs.declared.line.Mark.TheVariants.{BidDepleted, OfferDepleted, Nothing}
-use Rattle.rules.specs.Calls.{quote, swept_in, joined, follows_quote, Call}
+use Rattle.rules.specs.Calls.{swept_in, joined, follows_quote, Call}
 use Rattle.rules.specs.Clock.{due, end_period, protected_on, settle}
-use Rattle.rules.specs.Examples.{line}
 use Rattle.rules.specs.Laws.{Protected, TapeExplainsDiscretion}
 use Rattle.rules.specs.Limits.{protection_period}
 use Rattle.rules.specs.Market.{Market, with_line, with_end, Order, side_of, with_orders, with_quote, lower, end_of, those, without, period_runs, Book, ranked_in, reach_in}
-use Rattle.rules.specs.Priority.{ahead, line_price}
+use Rattle.rules.specs.Priority.{line_price}
 use Rattle.rules.specs.Runs.{run, opened}
 use Rattle.rules.specs.Sweep.{side_mark, recorded, trade, depletes, traded, after_trade}
 use Rattle.rules.proofs.Cases.{some_same, none_some}

@@ -1,5 +1,5 @@
 -- Membership by place in a list, and its link to `All` and `Has`.
--- Cite: all_in to show `All` of every member, in_all to read it, in-has where a law says `Has`.
+-- Cite: all_in to show `All` of every member, in_all to read it, in_has where a law says `Has`.
 use Rattle.std.proofs.Common.{◌≡◌, ◌⊎◌, List, [], ◌∷◌, ◌++◌, sym, refl, subst, inl, inr}
 use Rattle.std.proofs.ByRecursion.{all-has, all_has_itself}
 use Rattle.std.specs.List.{ContainsAt as Has, AllByRecursion as All}

@@ -1,6 +1,6 @@
 -- What holds of the resting orders after every run: their entry numbers ascend, each has shares left, and they are no
 -- more than have a place. By one step for a lowered row, one for a row that leaves, one for a row that is entered.
--- Cite: rows-sweep, rows-settle for any fact of the rows that lowering keeps.
+-- Cite: rows_sweep, rows_settle for any fact of the rows that lowering keeps.
 use Rattle.std.proofs.Common.{◌≡◌, ℕ, suc, ◌+◌, ◌-◌, ◌<◌, ◌≤◌, true, false, not, ◌&&◌, eqb, leb, ◌⊎◌, List, [], ◌∷◌, ◌++◌, length, None, sym, refl, ◌∙◌, subst, inl, inr, arith, length-append}
 use Rattle.std.proofs.ByRecursion.{All-push, All-weaker}
 use Rattle.std.proofs.lemmas.Bool.{leb-false, eqb-false, and_cases, true≢false}
@@ -13,7 +13,7 @@ use Rattle.terms.specs.declared.kinds.TimeInForce.TheVariants.{Rest, ImmediateOr
 use Rattle.rules.specs.Answers.{Answer, entered, cancelled, quoted, ticked, refused}
 use Rattle.rules.specs.Calls.{swept_in, joined, Call, quote, follows_quote, rested, done_at, entry, new_order, cancel, tick, Outcome, call, time_of}
 use Rattle.rules.specs.Clock.{settle, end_period, protected_on, at_time}
-use Rattle.rules.specs.Examples.{id, after}
+use Rattle.rules.specs.Examples.{id}
 use Rattle.rules.specs.Laws.{Ascending, NumbersAscend, Counted, EntriesCounted, NumberedFrom, NumberedInTurn, SharesRemain, OrdersWithinPlaces}
 use Rattle.rules.specs.Limits.{most_entries, most_resting}
 use Rattle.rules.specs.Market.{Order, lower, Market, those, with_end, without, Book, with_quote, less, lowered}

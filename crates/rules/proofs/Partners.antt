@@ -1,5 +1,5 @@
 -- The next partner is a partner and none goes ahead of it; where there is none, no order is a partner.
--- By the step of the fold: the best of the orders seen so far. Cite: next-in, next-none, next-best; the law is best-partner.
+-- By the step of the fold: the best of the orders seen so far. Cite: next_in, next_none, next_best; the law is best_partner.
 use Rattle.std.proofs.Common.{◌≡◌, ℕ, true, false, ◌&&◌, ◌⊎◌, List, [], ◌∷◌, Some, None, fold, Option, sym, refl, ap, ◌∙◌, subst, inl, inr}
 use Rattle.std.proofs.lemmas.Bool.{and_parts, true≢false}
 use Rattle.terms.specs.declared.kinds.Side.{Side}

@@ -1,9 +1,9 @@
 -- Every period that runs ends after the clock: a new one ends later than its line, and settling ends the others.
--- Cite: Later, later-lasts, settle-later.
+-- Cite: Later, later_lasts, settle_later.
 use Rattle.std.proofs.Common.{◌≡◌, ℕ, ◌+◌, ◌<◌, ◌≤◌, Bool, true, false, ◌⊎◌, List, Some, sym, refl, inl, inr, arith}
 use Rattle.terms.specs.declared.kinds.Side.{Side}
 use Rattle.terms.specs.declared.kinds.Side.TheVariants.{Buy, Sell}
-use Rattle.rules.specs.Calls.{quote, swept_in, joined, follows_quote}
+use Rattle.rules.specs.Calls.{swept_in, joined, follows_quote}
 use Rattle.rules.specs.Clock.{settle}
 use Rattle.rules.specs.Limits.{protection_period}
 use Rattle.rules.specs.Market.{Market, end_of, Order, side_of, with_orders, with_quote, without, those}

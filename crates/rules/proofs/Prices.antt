@@ -1,6 +1,6 @@
 -- The laws of the reach: what it depends on, that a period that begins makes it no more aggressive, and when it is the
 -- ranked price. No other file looks into `ranked_in` and `reach_in`. By cases of the kind, once, over `reach_as`.
--- Cite: reach-same, reach-calms, reach-unprotected, reach-unpegged, mdo-prices.
+-- Cite: reach_same, reach_calms, reach_unprotected, reach_unpegged, mdo_prices.
 use Rattle.std.proofs.Common.{◌≡◌, ℕ, ◌+◌, ◌*◌, ◌<◌, ◌≤◌, min, max, Bool, true, false, ◌&&◌, ◌⊎◌, ◌↔◌, sym, refl, ap, ◌∙◌, subst, inl, inr, arith}
 use Rattle.std.proofs.lemmas.Bool.{true≢false, cases_lt}
 use Rattle.terms.specs.Prices.{ranked, ranked_as, limit_or_midpoint, reach_with_discretion, peg}

@@ -8,7 +8,7 @@ use Rattle.terms.specs.Codes.{side_from}
 use Rattle.terms.specs.Sides.{same_side}
 use Rattle.terms.specs.declared.kinds.Side.{Side}
 use Rattle.rules.specs.Laws.{Ascending, OneRanking, OneAnswer}
-use Rattle.rules.specs.Market.{Market, Order, ranked_in, side_of, resting}
+use Rattle.rules.specs.Market.{Market, Order, ranked_in, side_of}
 use Rattle.rules.specs.Priority.{class_of}
 use Rattle.rules.specs.Questions.{ranks_before, placed, InRank, ranking_of, Ranking, Standing, AnsweredOn, asked_on, standing_of, at_place, index_of}
 use Rattle.rules.specs.Runs.{run, opened}

@@ -1,5 +1,5 @@
 -- A row is an order in the book's list. What `resting` finds is a row, and `lower` shortens the list or keeps each row, but for
--- shares. Cite: Same, From for an order of after that was there before; resting-in, lower-drops, lower-from.
+-- shares. Cite: Same, From for an order of after that was there before; resting_in, lower_drops, lower_from.
 use Rattle.std.proofs.Common.{◌≡◌, ℕ, suc, ◌<◌, ◌≤◌, eqb, leb, List, [], ◌∷◌, length, Some, None, sym, refl, ap, ◌∙◌, subst, inl, inr, arith}
 use Rattle.std.proofs.lemmas.Bool.{eqb-true, leb-false, eqb-false}
 use Rattle.rules.specs.Market.{Order, resting, lower, lowered, less}

@@ -1,4 +1,4 @@
--- A run goes on by one call. Cite run-push.
+-- A run goes on by one call. Cite run_push.
 use Rattle.std.proofs.Common.{◌≡◌, ℕ, ◌-◌, List, [], ◌∷◌, ◌++◌, length, refl, ap}
 use Rattle.rules.specs.Answers.{Answer}
 use Rattle.rules.specs.Calls.{Call, Outcome, call}

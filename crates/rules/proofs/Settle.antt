@@ -1,6 +1,6 @@
 -- Settling to a time and then to a later one is settling to the later one, and nothing is due then. By weight: rows and
 -- running periods together fall with each end of a period, so the turns given are enough and more change nothing.
--- Cite: due-is, due-none, settle-then, settled, settle-still, each_fewer.
+-- Cite: due_is, due_none, settle_then, settled, settle_still, each_fewer.
 use Rattle.std.proofs.Common.{◌≡◌, ℕ, zero, suc, ◌+◌, ◌<◌, ◌≤◌, leb, ◌⊎◌, List, [], ◌∷◌, length, Some, None, Option, sym, refl, ap, ◌∙◌, subst, inl, inr, arith}
 use Rattle.std.proofs.lemmas.Bool.{and_parts, leb-true, leb-false, le-leb}
 use Rattle.std.specs.List.{AllByRecursion as All}

@@ -1,6 +1,6 @@
 -- Ticks change nothing but the clock. Each run is compared with the run of its shared calls alone: the one book is always
--- the other, brought to a clock of its own; a shared call makes both equal, and a tick keeps that, by settle-then.
--- The law is ticks-change-only-the-clock.
+-- the other, brought to a clock of its own; a shared call makes both equal, and a tick keeps that, by settle_then.
+-- The law is ticks_change_only_the_clock.
 use Rattle.std.proofs.Common.{◌≡◌, ℕ, ◌-◌, ◌≤◌, true, ◌&&◌, leb, ◌⊎◌, List, [], ◌∷◌, length, None, sym, refl, ap, ◌∙◌, subst, inl, inr, arith}
 use Rattle.std.proofs.lemmas.Bool.{le-leb, leb-true, and_parts, cases_Bool}
 use Rattle.std.specs.List.{AllByRecursion as All}

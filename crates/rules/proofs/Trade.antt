@@ -1,5 +1,5 @@
 -- One line: what it leaves of rows, quote and periods; it ends a row. Then the same of a whole sweep.
--- Cite: trade-orders, trade-bid, trade-offer, trade-end, trade-shorter, partner-rests, sweep-fewer, sweep-end.
+-- Cite: trade_orders, trade_bid, trade_offer, trade_end, trade_shorter, partner_rests, sweep_fewer, sweep_end.
 use Rattle.std.proofs.Common.{◌≡◌, ℕ, ◌<◌, ◌≤◌, Bool, true, false, ◌⊎◌, List, length, Some, refl, ap, ◌∙◌, inl, inr, arith}
 use Rattle.std.proofs.lemmas.Bool.{cases_lt, cases_eq, and_parts}
 use Rattle.terms.specs.Sides.{opposite}

@@ -1,12 +1,12 @@
 -- After every run no resting order meets one of the other side. Each call sweeps all orders whose reach it made more
--- aggressive: those that follow the quote, those that a period restrained, the one entered. The law is never-crossed.
--- Cite: Orderly, run-orderly, settle-orderly.
+-- aggressive: those that follow the quote, those that a period restrained, the one entered. The law is never_crossed.
+-- Cite: Orderly, run_orderly, settle_orderly.
 use Rattle.std.proofs.Common.{◌≡◌, ℕ, ◌+◌, ◌<◌, ◌≤◌, Bool, true, false, eqb, ◌⊎◌, List, [], ◌∷◌, length, is_some, None, Option, sym, refl, ap, ◌∙◌, subst, inl, inr, arith}
 use Rattle.std.proofs.lemmas.Bool.{cases_Bool, and_cases, leb-false}
 use Rattle.terms.specs.Sides.{meets, same_side, opposite}
 use Rattle.terms.specs.declared.kinds.Side.{Side}
 use Rattle.terms.specs.declared.kinds.Side.TheVariants.{Buy, Sell}
-use Rattle.rules.specs.Calls.{quote, follows_quote, swept_in, joined, Call}
+use Rattle.rules.specs.Calls.{follows_quote, swept_in, joined, Call}
 use Rattle.rules.specs.Clock.{end_period, protected_on, settle}
 use Rattle.rules.specs.Laws.{NeverCrossed}
 use Rattle.rules.specs.Market.{Order, Market, those, reach_in, side_of, end_of, with_end, period_runs, with_quote, with_orders, without, Book}

@@ -2,7 +2,7 @@
 use Rattle.std.specs.Prelude.{ℕ, zero, suc, ◌+◌, ◌-◌, List, [], ◌∷◌, ◌++◌, negsuc}
 use Rattle.terms.specs.declared.kinds.Kind.TheVariants.{DisplayedLimit}
 use Rattle.terms.specs.declared.kinds.Side.TheVariants.{Sell}
-use Rattle.terms.specs.declared.kinds.TimeInForce.TheVariants.{Rest, ImmediateOrCancel}
+use Rattle.terms.specs.declared.kinds.TimeInForce.TheVariants.{Rest}
 use Rattle.tape.specs.declared.line.Mark.TheVariants.{BidDepleted, Nothing}
 use Rattle.rules.specs.declared.refusal.Refusal.TheVariants.{Identifier, Time, TapeShort, NameTaken, NoSuchOrder, BookFull, EntriesSpent}
 use Rattle.rules.specs.Answers.{Answer, entered, refused, ticked, cancelled}

@@ -1,7 +1,7 @@
 -- What is written of one line is what is read of it. The bytes of a line are written out, so every place in them computes;
 -- `number_same` carries a number from one list to another whose bytes agree.
 -- Cite `line_same` for bytes that agree, `line_spelled` and `read_spelled` for a line's own bytes.
-use Rattle.std.proofs.Common.{◌≡◌, ℕ, zero, suc, ◌+◌, ◌-◌, ◌*◌, ◌/◌, ◌%◌, ◌^◌, ◌<◌, ◌≤◌, Bool, true, false, cond, List, length, get_or, Some, None, Decides, sym, refl, ap, ◌∙◌, add-zero, add_assoc, arith, rules}
+use Rattle.std.proofs.Common.{◌≡◌, ℕ, zero, suc, ◌+◌, ◌*◌, ◌/◌, ◌%◌, ◌^◌, ◌<◌, ◌≤◌, Bool, true, false, cond, List, length, get_or, Some, None, Decides, sym, refl, ap, ◌∙◌, add-zero, add_assoc, arith, rules}
 use native.Mathlib.Nat.{div-div-eq-div-mul}
 use Rattle.std.specs.Str.{bytes_eq}
 use Rattle.std.proofs.lemmas.Slice.Eq.{bytes_eq-Decides}

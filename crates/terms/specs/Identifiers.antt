@@ -1,5 +1,5 @@
 -- An identifier is 1 to 20 bytes, each from 33 to 126.
-use Rattle.std.specs.Prelude.{ℕ, Bool, true, false, ◌&&◌, leb, List, [], ◌∷◌, length, Some, None, Option}
+use Rattle.std.specs.Prelude.{ℕ, Bool, true, false, ◌&&◌, List, [], ◌∷◌, length, Some, None, Option}
 use Rattle.terms.specs.declared.kinds.Refusal.{Refusal}
 use Rattle.terms.specs.declared.kinds.Refusal.TheVariants as refusal
 use Rattle.terms.specs.Terms.{in_range}

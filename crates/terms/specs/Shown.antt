@@ -1,5 +1,5 @@
 -- What people read: words for side and kind, and half-cents as dollars with three decimals.
-use Rattle.std.specs.Prelude.{ℕ, ◌*◌, ◌/◌, ◌%◌, List, [], ◌∷◌, ◌++◌, codes, decimal}
+use Rattle.std.specs.Prelude.{ℕ, ◌*◌, ◌/◌, ◌%◌, List, ◌++◌, codes, decimal}
 use Rattle.terms.specs.declared.kinds.Side.{Side}
 use Rattle.terms.specs.declared.kinds.Side.TheVariants.{Buy, Sell}
 use Rattle.terms.specs.declared.kinds.Refusal.{Refusal}

@@ -1,4 +1,4 @@
--- What a test chooses, by its answer. Cite if-true and if-not.
+-- What a test chooses, by its answer. Cite if_true and if_not.
 use Rattle.std.proofs.Common.{◌≡◌, Bool, true, false, refl}
 
 pub if_true : {A : Type 0} (b : Bool) (x y : A) → b ≡ true → elim b as (λ _. A) [ true ↦ x | false ↦ y ] ≡ x

@@ -1,5 +1,5 @@
 -- Writing field after field: how far the fields of an order have come into a buffer. Cite begun, then further for each
--- field that was put; at the end stopped or finished, and with these refused-page, whole-page and their outcomes.
+-- field that was put; at the end stopped or finished, and with these refused_page, whole_page and their outcomes.
 use Rattle.std.proofs.Common.{◌≡◌, ℕ, ◌+◌, ◌-◌, Bool, true, false, ◌&&◌, leb, List, [], ◌∷◌, ◌++◌, length, Ok, Err, sym, refl, ap, ◌∙◌, subst, append_assoc, append-nil, add-zero, arith}
 use Rattle.std.specs.List.{flat_map}
 use Rattle.std.proofs.lemmas.List.{length-append}

@@ -1,6 +1,6 @@
 -- A page that holds orders holds one more after an order is written, and the same where it does not fit.
--- Cite holds-order with lawful-width for one order, kept_same for one that is kept, wholes-more and wholes-stop for a
--- list of them, answer-reads for a whole register.
+-- Cite holds_order with lawful_width for one order, kept_same for one that is kept, wholes_more and wholes_stop for a
+-- list of them, answer_reads for a whole register.
 use Rattle.std.proofs.Common.{◌≡◌, ℕ, ◌+◌, ◌-◌, ◌^◌, ◌<◌, ◌≤◌, Bool, true, false, cond, leb, List, [], ◌∷◌, ◌++◌, length, take, drop, ℤ, pos, negsuc, Result, sym, refl, ap, ◌∙◌, subst, append_assoc, append-nil, arith, MatchResult}
 use Rattle.std.specs.List.{AllByRecursion as All}
 use Rattle.std.proofs.lemmas.List.{length-append, length-take-le, take_at, flat_map_more}

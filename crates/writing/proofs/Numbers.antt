@@ -1,5 +1,5 @@
--- Numbers in bytes and back. Cite two_back, four-back and signed_back of what was written, two-again, four-again and
--- signed-again of what was read.
+-- Numbers in bytes and back. Cite two_back, four_back and signed_back of what was written, two_again, four_again and
+-- signed_again of what was read.
 use Rattle.std.proofs.Common.{◌≡◌, ℕ, zero, suc, ◌+◌, ◌-◌, ◌*◌, ◌/◌, ◌%◌, ◌^◌, ◌<◌, Bool, true, false, ltb, [], ◌∷◌, ℤ, pos, negsuc, sym, refl, ap, ◌∙◌, arith}
 use native.Mathlib.Nat.{div-div-eq-div-mul}
 use Rattle.std.proofs.lemmas.Bool.{lt-ltb, le-ltb, lt-leb}

@@ -1,4 +1,4 @@
--- An offset is written unless it is 0. Cite offset-there and offset-absent, with not-zero or zero of what the code tested.
+-- An offset is written unless it is 0. Cite offset_there and offset_absent, with not_zero or zero of what the code tested.
 use Rattle.std.proofs.Common.{◌≡◌, ℕ, zero, suc, true, false, List, [], ◌∷◌, ℤ, pos, negsuc, Some, None, Option, refl, ap, arith, w32, of_z}
 use Rattle.std.proofs.lemmas.Bool.{leb-true, lt-leb, le-leb}
 use Rattle.terms.specs.Terms.{is_zero, offset_in_range}

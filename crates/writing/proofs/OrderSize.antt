@@ -1,5 +1,5 @@
 -- The size of an order: three bytes and the identifier, three fields of seven bytes, and five for an offset.
--- Cite size-with and size-without.
+-- Cite size_with and size_without.
 use Rattle.std.proofs.Common.{◌≡◌, ℕ, ◌+◌, true, false, List, [], length, sym, ap, ◌∙◌, append-nil, arith}
 use Rattle.std.specs.List.{flat_map}
 use Rattle.std.proofs.lemmas.List.{length-append}

@@ -1,5 +1,5 @@
 -- Bytes put over others from a place on, one part after another. Cite field_put for the field that the code wrote,
--- put-none, put-put and length-put to go on from there.
+-- put_none, put_put and length_put to go on from there.
 use Rattle.std.proofs.Common.{◌≡◌, ℕ, ◌+◌, ◌-◌, ◌/◌, ◌%◌, ◌≤◌, true, List, [], ◌∷◌, ◌++◌, length, take, drop, set, sym, refl, ap, ◌∙◌, add-zero, arith}
 use borrow.Rule.Slice.PartMut.{put_mid}
 use lib.Seq.{paste}

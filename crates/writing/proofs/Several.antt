@@ -1,6 +1,6 @@
 -- Orders written one after another: an order that fits leaves the rest to be written on from it, one that does not ends
--- the writing. Cite nothing-more at the end, one_more, one-fits and wholes after an order that was written, half-left,
--- none-fits, mark-back and refused-told after one that was not.
+-- the writing. Cite nothing_more at the end, one_more, one_fits and wholes after an order that was written, half_left,
+-- none_fits, mark_back and refused_told after one that was not.
 use Rattle.std.proofs.Common.{◌≡◌, ℕ, ◌+◌, ◌-◌, ◌≤◌, Bool, true, false, ◌&&◌, leb, List, [], ◌∷◌, ◌++◌, length, Err, sym, ap, ◌∙◌, append_assoc, add-zero, add_assoc, arith}
 use Rattle.std.specs.List.{flat_map}
 use Rattle.std.proofs.lemmas.List.{length-append}

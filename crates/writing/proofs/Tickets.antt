@@ -1,4 +1,4 @@
--- The codes of words are those that are read as these words, and lawful terms pass when they are judged. Cite ticket-back.
+-- The codes of words are those that are read as these words, and lawful terms pass when they are judged. Cite ticket_back.
 use Rattle.std.proofs.Common.{◌≡◌, ℕ, ◌≤◌, Bool, true, false, leb, Some, None, Ok, Err, Option, Result, refl, ap, ◌∙◌, arith}
 use Rattle.std.proofs.lemmas.Bool.{le-leb, and_from}
 use Rattle.terms.specs.declared.kinds.Side.{Side}

@@ -1,4 +1,4 @@
-use Rattle.std.proofs.Common.{◌≡◌, List, [], ◌∷◌, ◌++◌, length, sym, refl, ap, ◌∙◌, subst, arith}
+use Rattle.std.proofs.Common.{[], ◌∷◌, ◌++◌, length, sym, refl, ap, ◌∙◌, subst, arith}
 use Rattle.roll.specs.Rolls.{records}
 use Rattle.loading.specs.declared.slips.Slip.{Slip}
 use Rattle.loading.proofs.Nexts.{nothing_came, order_came, fault_came}

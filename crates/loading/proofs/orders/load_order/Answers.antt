@@ -1,7 +1,6 @@
-use Rattle.std.proofs.Common.{Ok, Err, refl}
+use Rattle.std.proofs.Common.{refl}
 use Rattle.terms.specs.Made.{ticket_terms}
 use Rattle.register.specs.Parts.{listed_of}
-use Rattle.book.specs.Carried.{entry_told}
 use Rattle.loading.proofs.Attempts.{ticketed}
 use Rattle.loading.proofs.orders.load_order.Goals as goal
 

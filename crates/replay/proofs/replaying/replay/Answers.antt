@@ -1,4 +1,4 @@
-use Rattle.std.proofs.Common.{◌≡◌, List, vec_items, vec_len, subst, arith, rules}
+use Rattle.std.proofs.Common.{List, vec_items, subst, rules}
 use Rattle.std.proofs.lemmas.List.{take_all}
 use Rattle.replay.specs.declared.calls.Call.{Call}
 use Rattle.replay.specs.Replayed.{Followed}

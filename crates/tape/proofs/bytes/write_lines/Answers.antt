@@ -1,4 +1,4 @@
-use Rattle.std.proofs.Common.{◌≡◌, ◌+◌, ◌*◌, ◌/◌, ◌<◌, [], ◌∷◌, ◌++◌, length, get_or, Ok, Err, Result, ap, ◌∙◌, arith, rules, MatchResult}
+use Rattle.std.proofs.Common.{◌≡◌, ◌+◌, ◌*◌, ◌/◌, ◌<◌, [], ◌∷◌, ◌++◌, length, Ok, Err, Result, ap, ◌∙◌, arith, rules, MatchResult}
 use borrow.Author.Rules.{get_or_read}
 use lib.Seq.{paste}
 use Rattle.tape.specs.declared.bytes.ByteTape.{ByteTape}

@@ -1,12 +1,10 @@
 -- Each way out, by the tests that led to it.
-use Rattle.std.proofs.Common.{◌≡◌, ◌+◌, Bool, true, false, leb, is_some, vec_items, sym, refl, ap, ◌∙◌}
+use Rattle.std.proofs.Common.{◌+◌, leb, is_some, vec_items, sym, refl, ap, ◌∙◌}
 use Rattle.std.proofs.lemmas.Bool.{le-leb, lt-leb}
 use Rattle.terms.specs.Made.{terms_of}
 use Rattle.rules.specs.Limits.{most_entries}
-use Rattle.rules.specs.Calls.{named, no_place}
-use Rattle.orders.specs.Rows.{orders_in}
+use Rattle.rules.specs.Calls.{no_place}
 use Rattle.market.specs.Markets.{market_of}
-use Rattle.book.specs.Tied.{Tied}
 use Rattle.book.proofs.EntryTests.{name_test, same_test}
 use Rattle.book.proofs.state.Book.admit.Goals as goal
 

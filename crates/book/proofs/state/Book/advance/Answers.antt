@@ -1,4 +1,3 @@
-use Rattle.std.proofs.Common.{Err}
 use Rattle.std.proofs.lemmas.Result.{err_from_is_err_and}
 use Rattle.book.proofs.Calling.{begun_refused, begun}
 use Rattle.book.proofs.state.Book.advance.Goals as goal

@@ -1,5 +1,5 @@
 -- Each way out, by the lemma of its kind; once the clock is at the time, the directory's answer is the rule book's.
-use Rattle.std.proofs.Common.{◌≡◌, ◌+◌, length, vec_items, sym, refl, ap, ◌∙◌}
+use Rattle.std.proofs.Common.{◌+◌, length, vec_items, sym, refl, ap, ◌∙◌}
 use Rattle.std.proofs.lemmas.Result.{err_from_is_err_and}
 use Rattle.rules.specs.declared.refusal.Refusal.TheVariants.{Identifier, NoSuchOrder}
 use Rattle.rules.specs.Market.{without, with_orders}

@@ -1,5 +1,5 @@
 -- The new row is the newest, whatever is left of it, so that dropping it leaves the rows that were there.
-use Rattle.std.proofs.Common.{◌≡◌, ◌+◌, ◌-◌, List, length, vec_items, sym, refl, ap, ◌∙◌, subst}
+use Rattle.std.proofs.Common.{◌+◌, ◌-◌, List, length, vec_items, sym, ap, ◌∙◌, subst}
 use Rattle.rules.specs.Market.{Market, resting, without, with_orders}
 use Rattle.rules.specs.Answers.{entered}
 use Rattle.rules.specs.Calls.{left_of}

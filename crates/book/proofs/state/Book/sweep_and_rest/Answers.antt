@@ -1,5 +1,5 @@
 -- The pair is put and the row joins, so that the directory is tied to the rows; sweeping changes shares alone.
-use Rattle.std.proofs.Common.{◌≡◌, ◌+◌, ◌-◌, List, [], ◌∷◌, ◌++◌, length, vec_items, sym, refl, ap, ◌∙◌, subst}
+use Rattle.std.proofs.Common.{◌≡◌, ◌+◌, ◌-◌, [], ◌∷◌, ◌++◌, length, vec_items, ap, ◌∙◌}
 use Rattle.terms.specs.Identifiers.{lawful_identifier}
 use Rattle.rules.specs.Market.{Market, resting}
 use Rattle.rules.specs.Answers.{entered}

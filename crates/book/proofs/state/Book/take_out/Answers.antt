@@ -1,4 +1,4 @@
-use Rattle.std.proofs.Common.{vec_items, ap, ◌∙◌}
+use Rattle.std.proofs.Common.{vec_items, ◌∙◌}
 use Rattle.book.proofs.Kept.{tied_kept}
 use Rattle.book.proofs.state.Book.take_out.Goals as goal
 

@@ -1,4 +1,4 @@
-use Rattle.std.proofs.Common.{◌≡◌, length, Some, None, vec_items, sym, refl, ap, ◌∙◌, subst, arith}
+use Rattle.std.proofs.Common.{◌≡◌, length, Some, vec_items, sym, ap, ◌∙◌, subst, arith}
 use Rattle.rules.specs.Market.{Order, resting, ranked_in}
 use Rattle.rules.specs.Laws.{Reason}
 use Rattle.rules.specs.Questions.{Why, why}
@@ -7,7 +7,6 @@ use Rattle.rules.proofs.Members.{in_all}
 use Rattle.rules.proofs.Rows.{resting_in}
 use Rattle.orders.specs.Rows.{row_order, orders_in}
 use Rattle.orders.proofs.Still.{reach_still}
-use Rattle.questions.specs.Meant.{why_as}
 use Rattle.book.specs.Books.{book_of}
 use Rattle.book.proofs.Named.{found_none, found_some}
 use Rattle.book.proofs.Explains.{reasoned}

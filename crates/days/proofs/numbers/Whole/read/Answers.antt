@@ -1,4 +1,4 @@
-use Rattle.std.proofs.Common.{◌≡◌, ◌≤◌, true, length, get_or, sym, ap, ◌∙◌, arith, rules}
+use Rattle.std.proofs.Common.{◌≡◌, ◌≤◌, true, length, get_or, sym, ap, ◌∙◌, rules}
 use Rattle.days.specs.Numbers.{signed}
 use Rattle.days.proofs.Sizes.{minus_first}
 use Rattle.days.proofs.numbers.Whole.read.Goals as goal

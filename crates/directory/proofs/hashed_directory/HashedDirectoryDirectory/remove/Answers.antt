@@ -1,4 +1,4 @@
-use Rattle.std.proofs.Common.{◌≡◌, ◌+◌, length, vec_items, vec_len, sym, ap, ◌∙◌, arith}
+use Rattle.std.proofs.Common.{◌≡◌, ◌+◌, length, vec_items, vec_len, sym, ◌∙◌, arith}
 use Rattle.directory.specs.Table.{entries_in}
 use Rattle.directory.proofs.Tables.{found_number, gapped, count_removed, removed_here, removed_others}
 use Rattle.directory.proofs.hashed_directory.HashedDirectoryDirectory.remove.Goals as goal

@@ -1,7 +1,7 @@
 use Rattle.std.proofs.Common.{fold, ap, ◌∙◌, arith}
 use Rattle.std.proofs.lemmas.List.{take_all}
 use Rattle.rules.specs.Sweep.{displayed_shares}
-use Rattle.orders.specs.Rows.{resting_step, orders_in}
+use Rattle.orders.specs.Rows.{resting_step}
 use Rattle.orders.specs.Displays.{with_shares_there}
 use Rattle.orders.specs.Seen.{seen}
 use Rattle.orders.proofs.Folds.{scanned, scan_more}

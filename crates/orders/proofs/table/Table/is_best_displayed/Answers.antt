@@ -1,7 +1,7 @@
 use Rattle.std.proofs.Common.{true, fold, ap, ◌∙◌}
 use Rattle.std.proofs.lemmas.List.{take_all}
 use Rattle.rules.specs.Sweep.{best_displayed}
-use Rattle.orders.specs.Rows.{resting_step, orders_in}
+use Rattle.orders.specs.Rows.{resting_step}
 use Rattle.orders.specs.Displays.{unbeaten}
 use Rattle.orders.specs.Seen.{seen}
 use Rattle.orders.proofs.Folds.{scanned, scan_more}

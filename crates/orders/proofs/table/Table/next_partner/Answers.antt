@@ -1,7 +1,7 @@
 use Rattle.std.proofs.Common.{None, fold, ap, ◌∙◌}
 use Rattle.std.proofs.lemmas.List.{take_all}
 use Rattle.rules.specs.Priority.{better_of, next_partner}
-use Rattle.orders.specs.Rows.{resting_step, orders_in}
+use Rattle.orders.specs.Rows.{resting_step}
 use Rattle.orders.specs.Seen.{seen}
 use Rattle.orders.proofs.Folds.{scanned, scan_more}
 use Rattle.orders.proofs.table.Table.next_partner.Goals as goal
