@@ -1,7 +1,7 @@
 -- An entry that passes its tests: the book is ready for its row, and once the row is swept the entry is carried out. Cite ready,
 -- has_place and accepted.
 use Rattle.std.proofs.Common.{◌≡◌, ℕ, ◌<◌, ◌≤◌, Bool, true, false, not, ◌&&◌, leb, List, length, is_some, Some, None, Ok, vec_items, Option, sym, refl, ap, ◌∙◌, subst, arith}
-use Rattle.std.specs.List.{AllByRecursion as All}
+use Rattle.std.specs.List.{AllByRecursion as Every}
 use Rattle.std.proofs.lemmas.Bool.{leb-false}
 use Rattle.terms.specs.declared.kinds.TimeInForce.{TimeInForce}
 use Rattle.terms.specs.declared.kinds.TimeInForce.TheVariants.{Rest, ImmediateOrCancel}
@@ -68,11 +68,11 @@ module _ {D T : Type 0} (d : DirectoryOf D) (t : TapeOf T) (b mid : OpenBook D T
     newest_below : newest_number 0 (vec_items mid.market.table.rows) ≤ mid.entries
     newest_below =
         let law = (numbers_ascend there.bid there.offer (capacity_of t mid.market) there.calls).1 in
-        let all : All (λ (o : Order). o.number ≤ mid.entries) here.market.orders =
-        subst (λ (z : Book). All (λ (o : Order). o.number ≤ z.entries) z.market.orders) (sym there.reached) law
+        let all : Every (λ (o : Order). o.number ≤ mid.entries) here.market.orders =
+        subst (λ (z : Book). Every (λ (o : Order). o.number ≤ z.entries) z.market.orders) (sym there.reached) law
         in
         newest_counted 0 mid.entries (vec_items mid.market.table.rows) (omega arith)
-        (subst (λ (os : List Order). All (λ (o : Order). o.number ≤ mid.entries) os) (sym brought.rests.orders) all)
+        (subst (λ (os : List Order). Every (λ (o : Order). o.number ≤ mid.entries) os) (sym brought.rests.orders) all)
 
     few_rest : length (vec_items mid.market.table.rows) < 65
     few_rest =

@@ -1,7 +1,7 @@
 -- An entry, once the clock is at its time: its tests, and the new row's number and place. Cite name_test for the directory's
 -- part of the tests, entry_refused and entry_passed for what follows of them, can-join and has_place for the new row.
 use Rattle.std.proofs.Common.{◌≡◌, ℕ, ◌+◌, ◌≤◌, Bool, true, false, leb, ◌⊎◌, List, [], ◌∷◌, map, is_some, Some, None, Ok, Err, Option, Result, sym, refl, ap, ◌∙◌, inl, inr, arith}
-use Rattle.std.specs.List.{AllByRecursion as All}
+use Rattle.std.specs.List.{AllByRecursion as Every}
 use Rattle.terms.specs.Terms.{OrderTerms}
 use Rattle.rules.specs.declared.refusal.Refusal.{Refusal}
 use Rattle.rules.specs.declared.refusal.Refusal.TheVariants.{NameTaken, BookFull, EntriesSpent}
@@ -74,6 +74,6 @@ test_tells id w b k e =
     record { name = parts.0; place = parts.1; number = parts.2 }
 
 -- the newest row is not above the count of entries
-pub newest_counted : (low n : ℕ) (rs : List Row) → low ≤ n → All (λ (o : Order). o.number ≤ n) (map row_order rs) → newest_number low rs ≤ n
+pub newest_counted : (low n : ℕ) (rs : List Row) → low ≤ n → Every (λ (o : Order). o.number ≤ n) (map row_order rs) → newest_number low rs ≤ n
 newest_counted low n [] le all = le
 newest_counted low n (r ∷ rs) le all = newest_counted r.number n rs all.0 all.1

@@ -1,6 +1,6 @@
 -- The law of loads, by the definition. Cite load_lawful.
 use Rattle.std.proofs.Common.{◌≡◌, ℕ, zero, suc, ◌+◌, ◌<◌, ◌≤◌, Bool, true, false, ltb, List, [], ◌∷◌, length, Some, None, Ok, Err, Option, Result, sym, refl, ap, ◌∙◌, inl, inr, add-zero, arith}
-use Rattle.std.specs.List.{AllByRecursion as All}
+use Rattle.std.specs.List.{AllByRecursion as Every}
 use Rattle.std.proofs.ByRecursion.{All-append, All-push}
 use Rattle.std.proofs.lemmas.List.{length-append}
 use Rattle.terms.specs.Terms.{OrderTerms, ticket_from}
@@ -41,15 +41,15 @@ module _ (time room : ℕ) where
       judged (Ok w) = entry_slips place (made room (entry time o.identifier w) b).answer
       judged (Err e) = inl refl
 
-  attempt_entries : (place : ℕ) (o : Listed) (b : RuleBook) → All (EntryAt time) (attempt time room place o b).calls
+  attempt_entries : (place : ℕ) (o : Listed) (b : RuleBook) → Every (EntryAt time) (attempt time room place o b).calls
   attempt_entries place o b = made_of (listed_ticket place o.draft)
     where
-      made_of : (r : Result OrderTerms Fault) → All (EntryAt time) (attempt_with time room place o b r).calls
+      made_of : (r : Result OrderTerms Fault) → Every (EntryAt time) (attempt_with time room place o b r).calls
       made_of (Ok w) = (refl, tt)
       made_of (Err e) = tt
 
   abbrev SoLawful : Load → Type 0
-  SoLawful l = All (EntryAt time) l.calls × All OfOneOrder l.slips
+  SoLawful l = Every (EntryAt time) l.calls × Every OfOneOrder l.slips
 
   abbrev EndsLawful : Ended → Type 0
   EndsLawful e = SoLawful e.load × Stops e.stop

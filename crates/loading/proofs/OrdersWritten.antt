@@ -1,7 +1,7 @@
 -- Orders of a book, written one after another by their index: what is left to write comes to the same as writing them all.
 -- Cite written_none at the start, written_more and written_past after a turn, written_all and written_half at the end, then book_written.
 use Rattle.std.proofs.Common.{◌≡◌, ℕ, zero, suc, ◌+◌, ◌≤◌, List, [], ◌∷◌, ◌++◌, map, length, drop, Some, None, Ok, Err, Result, sym, refl, ap, ◌∙◌, subst, append-nil, add-one, arith}
-use Rattle.std.specs.List.{slice_get, AllByRecursion as All}
+use Rattle.std.specs.List.{slice_get, AllByRecursion as Every}
 use Rattle.std.proofs.lemmas.List.{drop_all}
 use Rattle.register.specs.Layout.{Listed}
 use Rattle.rules.specs.Market.{Order, Book}
@@ -96,7 +96,7 @@ written_past start p all os i e s =
     let few = none_there os i e in
     subst (λ z. SoWritten start p all z) (none_listed os i few ∙ sym (none_listed os (i + 1) (omega arith))) s
 
-pub book_written : (b : Book) (before after : List ℕ) (start p : Page) (r : Result ℕ NoRoom) → start ≡ fresh before → after ≡ p.bytes → AllWritten start p (orders_listed b) r → All ReadsAsTicket b.market.orders → Written b before after r
+pub book_written : (b : Book) (before after : List ℕ) (start p : Page) (r : Result ℕ NoRoom) → start ≡ fresh before → after ≡ p.bytes → AllWritten start p (orders_listed b) r → Every ReadsAsTicket b.market.orders → Written b before after r
 book_written b before after start p r new lent s tickets =
     let os = orders_listed b in
     let told : r ≡ mark_if (orders_fit (room (fresh before)) os) p.mark = s.outcome ∙ ap (λ (z : Page). mark_if (orders_fit (room z) os) p.mark) new in

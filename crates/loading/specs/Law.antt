@@ -1,7 +1,7 @@
 -- The law of loads, in words: entries are all made at one time; a ticket or an entry that is refused leaves a slip, and only a fault
 -- of a field or of an order stops the load; in a finished one every order of the register is entered or has a slip.
 use Rattle.std.specs.Prelude.{◌≡◌, ℕ, ◌+◌, ◌⊎◌, List, [], ◌∷◌, length, Some, None, Ok, Option}
-use Rattle.std.specs.List.{AllByRecursion as All}
+use Rattle.std.specs.List.{AllByRecursion as Every}
 use Rattle.register.specs.Layout.{Listed}
 use Rattle.register.specs.Reading.{read_next}
 use Rattle.rules.specs.Calls.{Call, entry, cancel, quote, tick}
@@ -32,7 +32,7 @@ Lists total rest (o ∷ os) =
     (after : List ℕ) × (read_next total rest ≡ Some (Ok (record { order = o; rest = after }))) × Lists total after os
 
 pub record LawfulLoad (time : ℕ) (register : List ℕ) (e : Ended) : Type 0 where
-  pub at_time : All (EntryAt time) e.load.calls
-  pub slips : All OfOneOrder e.load.slips
+  pub at_time : Every (EntryAt time) e.load.calls
+  pub slips : Every OfOneOrder e.load.slips
   pub stop : Stops e.stop
   pub accounted : (os : List Listed) → Lists (length register) register os → e.stop ≡ None → e.load.entered + length e.load.slips ≡ length os

@@ -1,6 +1,6 @@
 -- A book in bytes: its resting orders, lowest entry number first, each with the shares that are left of it.
 use Rattle.std.specs.Prelude.{◌≡◌, ℕ, List, map, take, Ok, Result, MatchResult}
-use Rattle.std.specs.List.{AllByRecursion as All}
+use Rattle.std.specs.List.{AllByRecursion as Every}
 use Rattle.terms.specs.Terms.{ticket_from}
 use Rattle.register.specs.Layout.{Listed}
 use Rattle.rules.specs.Market.{Order, Book}
@@ -28,4 +28,4 @@ pub record Written (b : Book) (before after : List ℕ) (r : Result ℕ NoRoom) 
   pub reads_back : MatchResult r
       (λ mark. ReadsAs mark (take mark after) (orders_listed b))
       (λ e. ReadsAs e.place (take e.place after) (whole_orders (room (fresh before)) (orders_listed b)))
-  pub tickets : All ReadsAsTicket b.market.orders
+  pub tickets : Every ReadsAsTicket b.market.orders

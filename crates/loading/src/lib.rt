@@ -3,7 +3,7 @@
 
 pub mod faults;
 pub mod load;
-mod orders;
+mod one_order;
 pub mod slips;
 pub mod telling;
 pub mod write;

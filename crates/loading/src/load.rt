@@ -4,7 +4,7 @@ ghost use Rattle.book.specs.Books.{Sound};
 ghost use Rattle.loading.specs.Loaded.{LoadedInto};
 
 use crate::faults::LoadFault;
-use crate::orders::load_order;
+use crate::one_order::load_order;
 use crate::slips::{Loaded, Slip};
 use book::state::Book;
 use directory::directories::Directory;

@@ -4,7 +4,7 @@ use Rattle.std.proofs.Common.{◌≡◌, ℕ, zero, suc, ◌+◌, ◌<◌, ◌�
 use Rattle.std.proofs.ByRecursion.{all-has}
 use Rattle.std.proofs.lemmas.Option.{slice_get_past}
 use Rattle.std.proofs.lemmas.Bool.{true≢false, and_parts, and_from, and_right, ltb-true}
-use Rattle.std.specs.List.{AllByRecursion as All, slice_get}
+use Rattle.std.specs.List.{AllByRecursion as Every, slice_get}
 use Rattle.terms.specs.Sides.{same_side}
 use Rattle.terms.specs.declared.kinds.Side.{Side}
 use Rattle.rules.specs.Laws.{Ascending}
@@ -82,7 +82,7 @@ module _ (m : Market) (s : Side) where
       later (inl e) = absurd (true≢false (sym h.1 ∙ ap (comes_after m s told) e ∙ f))
       later (inr i) = i
 
-  first_next : (told : Option Order) (xs : List Order) (next : Option Order) → InRank m s xs → All (λ x. comes_after m s told x ≡ true) xs
+  first_next : (told : Option Order) (xs : List Order) (next : Option Order) → InRank m s xs → Every (λ x. comes_after m s told x ≡ true) xs
       → NextRanked m s told xs next → next ≡ slice_get xs 0
   first_next told [] None rank all h = refl
   first_next told [] (Some z) rank all h = absurd (has_in [] z h.0)
@@ -93,7 +93,7 @@ module _ (m : Market) (s : Side) where
       first (inl e) = ap Some e
       first (inr i) = absurd (true≢false (sym (in_all (λ y. ranks_before m s x y ≡ true) xs z rank.0 i) ∙ h.2.0 all.0))
 
-  next_after : (xs : List Order) (i : ℕ) (a : Order) (next : Option Order) → InRank m s xs → All (λ x. side_of x ≡ s) xs
+  next_after : (xs : List Order) (i : ℕ) (a : Order) (next : Option Order) → InRank m s xs → Every (λ x. side_of x ≡ s) xs
       → slice_get xs i ≡ Some a → NextRanked m s (Some a) xs next → next ≡ slice_get xs (suc i)
   next_after [] i a next rank sides e h = absurd (none_some None a refl e)
   next_after (x ∷ xs) zero a next rank sides e h =

@@ -1,6 +1,6 @@
 -- The ranked question one order at a time: which order of the side is ranked next after one that is told.
 use Rattle.std.specs.Prelude.{◌≡◌, Bool, true, false, ◌&&◌, List, Some, None, Option}
-use Rattle.std.specs.List.{ContainsAt as Has, AllByRecursion as All}
+use Rattle.std.specs.List.{ContainsAt as Has, AllByRecursion as Every}
 use Rattle.terms.specs.declared.kinds.Side.{Side}
 use Rattle.terms.specs.Sides.{same_side}
 use Rattle.rules.specs.Market.{Order, Market, side_of}
@@ -14,6 +14,6 @@ comes_after m s (Some told) o = same_side (side_of o) s && ranks_before m s told
 -- the next order comes after the one that is told, and no other that does is ranked before it; where none is next, none comes
 -- after it
 abbrev pub NextRanked : Market → Side → Option Order → List Order → Option Order → Type 0
-NextRanked m s told os None = All (λ y. comes_after m s told y ≡ false) os
+NextRanked m s told os None = Every (λ y. comes_after m s told y ≡ false) os
 NextRanked m s told os (Some x) =
-    Has os x × (comes_after m s told x ≡ true) × All (λ y. comes_after m s told y ≡ true → ranks_before m s y x ≡ false) os
+    Has os x × (comes_after m s told x ≡ true) × Every (λ y. comes_after m s told y ≡ true → ranks_before m s y x ≡ false) os

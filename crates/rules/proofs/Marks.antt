@@ -4,7 +4,7 @@
 use Rattle.std.proofs.Common.{◌≡◌, ℕ, ◌+◌, ◌*◌, ◌<◌, ◌≤◌, Bool, true, false, ◌&&◌, ◌⊎◌, ◌↔◌, List, [], ◌∷◌, ◌++◌, length, is_some, Some, None, Option, sym, refl, ap, ◌∙◌, subst, inl, inr, append_assoc, arith}
 use Rattle.std.proofs.ByRecursion.{All-push, has_append_right, All-weaker, all-has}
 use Rattle.std.proofs.lemmas.Bool.{and_parts, and_from}
-use Rattle.std.specs.List.{ContainsAt as Has, AllByRecursion as All}
+use Rattle.std.specs.List.{ContainsAt as Has, AllByRecursion as Every}
 use Rattle.terms.specs.Terms.{is_mdo}
 use Rattle.terms.specs.declared.kinds.Side.{Side}
 use Rattle.terms.specs.declared.kinds.Side.TheVariants.{Buy, Sell}
@@ -39,7 +39,7 @@ pub record Cause (k : Mark) (e : ℕ) (tape : List Line) : Type 0 where
   pub split : tape ≡ earlier ++ (line ∷ later)
   pub mark : line.mark ≡ k
   pub begins : line.time + protection_period ≡ e
-  pub latest : All (λ (z : Line). z.mark ≡ k → ⊥) later
+  pub latest : Every (λ (z : Line). z.mark ≡ k → ⊥) later
 
 cause_other : (k : Mark) (e : ℕ) (tape : List Line) (l : Line) → (l.mark ≡ k → ⊥) → Cause k e tape → Cause k e (tape ++ (l ∷ []))
 cause_other k e tape l d c =
@@ -63,12 +63,12 @@ cause_has k e tape c =
 -- at time t, of one side, with the mark k: every marked line is a period before the end, or before now where none runs;
 -- a period that runs was started by a marked line
 record Kept (t : ℕ) (k : Mark) (end : Option ℕ) (tape : List Line) : Type 0 where
-  lapsed : All (λ (l : Line). l.mark ≡ k → l.time + protection_period ≤ limit end t) tape
+  lapsed : Every (λ (l : Line). l.mark ≡ k → l.time + protection_period ≤ limit end t) tape
   cause : (e : ℕ) → end ≡ Some e → Cause k e tape
   ahead : (e : ℕ) → end ≡ Some e → t ≤ e
 
 pub record Marked (t : ℕ) (m : Market) : Type 0 where
-  pub past : All (λ (l : Line). l.time ≤ t) m.tape
+  pub past : Every (λ (l : Line). l.time ≤ t) m.tape
   buys : Kept t BidDepleted m.buy_end m.tape
   sells : Kept t OfferDepleted m.sell_end m.tape
 
@@ -81,7 +81,7 @@ kept_other t k end tape l d h =
       ahead = h.ahead;
     }
 
-kept_new : (t : ℕ) (k : Mark) (tape : List Line) (l : Line) → l.time ≡ t → l.mark ≡ k → All (λ (z : Line). z.time ≤ t) tape
+kept_new : (t : ℕ) (k : Mark) (tape : List Line) (l : Line) → l.time ≡ t → l.mark ≡ k → Every (λ (z : Line). z.time ≤ t) tape
     → Kept t k (Some (t + protection_period)) (tape ++ (l ∷ []))
 kept_new t k tape l e f h =
     record {
@@ -99,7 +99,7 @@ kept_later t u k (Some e) tape l a h = record { lapsed = h.lapsed; cause = h.cau
 kept_ended : (t : ℕ) (k : Mark) (e : ℕ) (end : Option ℕ) (tape : List Line) → end ≡ Some e → Kept t k end tape → Kept e k None tape
 kept_ended t k e end tape p h =
     record {
-      lapsed = subst (λ v. All (λ (z : Line). z.mark ≡ k → z.time + protection_period ≤ limit v t) tape) p h.lapsed;
+      lapsed = subst (λ v. Every (λ (z : Line). z.mark ≡ k → z.time + protection_period ≤ limit v t) tape) p h.lapsed;
       cause = λ u q. absurd (none_some None u refl q);
       ahead = λ u q. absurd (none_some None u refl q);
     }

@@ -4,7 +4,7 @@
 use Rattle.std.proofs.Common.{◌≡◌, ℕ, suc, ◌+◌, ◌-◌, ◌<◌, ◌≤◌, true, false, not, ◌&&◌, eqb, leb, ◌⊎◌, List, [], ◌∷◌, ◌++◌, length, None, sym, refl, ◌∙◌, subst, inl, inr, arith, length-append}
 use Rattle.std.proofs.ByRecursion.{All-push, All-weaker}
 use Rattle.std.proofs.lemmas.Bool.{leb-false, eqb-false, and_cases, true≢false}
-use Rattle.std.specs.List.{AllByRecursion as All}
+use Rattle.std.specs.List.{AllByRecursion as Every}
 use Rattle.terms.specs.Terms.{is_ioc}
 use Rattle.terms.specs.declared.kinds.Side.{Side}
 use Rattle.terms.specs.declared.kinds.Side.TheVariants.{Buy, Sell}
@@ -77,22 +77,22 @@ rows_run Q l none bid offer room cs =
 -- Entry numbers
 
 lower_all : (P : Order → Type 0) → ((n : ℕ) (o : Order) → n < o.left → P o → P (less n o)) → (k n : ℕ) (os : List Order)
-    → All P os → All P (lower k n os)
+    → Every P os → Every P (lower k n os)
 unfolding lower
 lower_all P step k n [] h = h
 lower_all P step k n (o ∷ os) h =
     let g = lower_all P step k n os h.1 in
-    if_both (eqb o.number k) (lowered n o (lower k n os)) (o ∷ lower k n os) (All P)
-    (λ _. if_both (leb o.left n) (lower k n os) (less n o ∷ lower k n os) (All P) (λ _. g)
+    if_both (eqb o.number k) (lowered n o (lower k n os)) (o ∷ lower k n os) (Every P)
+    (λ _. if_both (leb o.left n) (lower k n os) (less n o ∷ lower k n os) (Every P) (λ _. g)
     (λ e. (step n o (leb-false o.left n e) h.0, g)))
     (λ _. (h.0, g))
 
-without_all : (P : Order → Type 0) (k : ℕ) (os : List Order) → All P os → All P (without k os)
+without_all : (P : Order → Type 0) (k : ℕ) (os : List Order) → Every P os → Every P (without k os)
 unfolding without
 without_all P k [] h = h
 without_all P k (o ∷ os) h =
     let g = without_all P k os h.1 in
-    if_both (eqb o.number k) (without k os) (o ∷ without k os) (All P) (λ _. g) (λ _. (h.0, g))
+    if_both (eqb o.number k) (without k os) (o ∷ without k os) (Every P) (λ _. g) (λ _. (h.0, g))
 
 ascending_from : (low lower_still : ℕ) (os : List Order) → lower_still ≤ low → Ascending low os → Ascending lower_still os
 ascending_from low z [] l h = h
@@ -116,12 +116,12 @@ without_ascending low k (o ∷ os) h =
     let d = ascending_from o.number low (without k os) (omega (arith, h.0)) g in
     if_both (eqb o.number k) (without k os) (o ∷ without k os) (Ascending low) (λ _. d) (λ _. (h.0, g))
 
-push_ascending : (low n : ℕ) (o : Order) (os : List Order) → o.number ≡ n + 1 → low ≤ n → All (λ x. x.number ≤ n) os
+push_ascending : (low n : ℕ) (o : Order) (os : List Order) → o.number ≡ n + 1 → low ≤ n → Every (λ x. x.number ≤ n) os
     → Ascending low os → Ascending low (os ++ (o ∷ []))
 push_ascending low n o [] e l a h = (omega arith, tt)
 push_ascending low n o (x ∷ xs) e l a h = (h.0, push_ascending x.number n o xs e a.0 a.1 h.1)
 
-numbered : RowsLast (λ j os. Ascending 0 os × All (λ o. o.number ≤ j) os)
+numbered : RowsLast (λ j os. Ascending 0 os × Every (λ o. o.number ≤ j) os)
 numbered =
     record {
       lower = λ j k n os h. (lower_ascending 0 k n os h.0, lower_all (λ o. o.number ≤ j) (λ _ _ _ g. g) k n os h.1);
@@ -196,7 +196,7 @@ numbered_in_turn bid offer room cs = run_numbered room cs (opened bid offer)
 abbrev Remains : Order → Type 0
 Remains o = (o.left ≤ o.terms.shares) × (1 ≤ o.terms.shares → 1 ≤ o.left)
 
-remaining : RowsLast (λ _ os. All Remains os)
+remaining : RowsLast (λ _ os. Every Remains os)
 remaining =
     record {
       lower = λ _ k n os h. lower_all Remains (λ n o l g. (omega (arith, g.0), λ _. omega arith)) k n os h;
@@ -205,7 +205,7 @@ remaining =
     }
 
 pub shares_remain : SharesRemain
-shares_remain bid offer room cs = rows_run (λ _ os. All Remains os) remaining tt bid offer room cs
+shares_remain bid offer room cs = rows_run (λ _ os. Every Remains os) remaining tt bid offer room cs
 
 -- Places
 

@@ -3,7 +3,7 @@
 use Rattle.std.proofs.Common.{◌≡◌, ℕ, zero, suc, ◌-◌, ◌<◌, true, false, ◌⊎◌, ◌↔◌, List, [], ◌∷◌, Some, None, Option, sym, refl, ap, ◌∙◌, subst, inl, inr, arith}
 use Rattle.std.proofs.ByRecursion.{All-weaker, all-has, all_has_itself}
 use Rattle.std.proofs.lemmas.Bool.{true≢false}
-use Rattle.std.specs.List.{ContainsAt as Has, AllByRecursion as All}
+use Rattle.std.specs.List.{ContainsAt as Has, AllByRecursion as Every}
 use Rattle.terms.specs.Codes.{side_from}
 use Rattle.terms.specs.Sides.{same_side}
 use Rattle.terms.specs.declared.kinds.Side.{Side}
@@ -32,12 +32,12 @@ before_total m s x y e d =
 
 -- There is one
 
-placed_all : (m : Market) (s : Side) (P : Order → Type 0) (o : Order) (xs : List Order) → P o → All P xs → All P (placed m s o xs)
+placed_all : (m : Market) (s : Side) (P : Order → Type 0) (o : Order) (xs : List Order) → P o → Every P xs → Every P (placed m s o xs)
 unfolding placed
 placed_all m s P o [] h g = (h, g)
 placed_all m s P o (x ∷ xs) h g =
     let later = placed_all m s P o xs h g.1 in
-    if_both (ranks_before m s o x) (o ∷ (x ∷ xs)) (x ∷ placed m s o xs) (All P) (λ _. (h, g)) (λ _. (g.0, later))
+    if_both (ranks_before m s o x) (o ∷ (x ∷ xs)) (x ∷ placed m s o xs) (Every P) (λ _. (h, g)) (λ _. (g.0, later))
 
 placed_new : (m : Market) (s : Side) (o : Order) (xs : List Order) → In o (placed m s o xs)
 unfolding placed
@@ -55,7 +55,7 @@ placed_old m s o y (x ∷ xs) (inr i) =
     let later = placed_old m s o y xs i in
     if_both (ranks_before m s o x) (o ∷ (x ∷ xs)) (x ∷ placed m s o xs) (In y) (λ _. inr (inr i)) (λ _. inr later)
 
-placed_in_rank : (m : Market) (s : Side) (o : Order) (xs : List Order) → All (λ x. o.number ≡ x.number → ⊥) xs → InRank m s xs
+placed_in_rank : (m : Market) (s : Side) (o : Order) (xs : List Order) → Every (λ x. o.number ≡ x.number → ⊥) xs → InRank m s xs
     → InRank m s (placed m s o xs)
 unfolding placed
 placed_in_rank m s o [] d h = (tt, tt)
@@ -65,20 +65,20 @@ placed_in_rank m s o (x ∷ xs) d h =
     (λ e. ((e, All-weaker (λ y. ranks_before m s x y ≡ true) _ (λ y f. before_then m s o x y e f) xs h.0), h))
     (λ e. (placed_all m s (λ y. ranks_before m s x y ≡ true) o xs (before_total m s o x e d.0) h.0, later))
 
-ranking_all : (m : Market) (s : Side) (P : Order → Type 0) (os : List Order) → All P os → All P (ranking_of m s os)
+ranking_all : (m : Market) (s : Side) (P : Order → Type 0) (os : List Order) → Every P os → Every P (ranking_of m s os)
 unfolding ranking_of
 ranking_all m s P [] h = h
 ranking_all m s P (o ∷ os) h =
     let later = ranking_all m s P os h.1 in
-    if_both (same_side (side_of o) s) (placed m s o (ranking_of m s os)) (ranking_of m s os) (All P)
+    if_both (same_side (side_of o) s) (placed m s o (ranking_of m s os)) (ranking_of m s os) (Every P)
     (λ _. placed_all m s P o (ranking_of m s os) h.0 later) (λ _. later)
 
-ranking_side : (m : Market) (s : Side) (os : List Order) → All (λ o. side_of o ≡ s) (ranking_of m s os)
+ranking_side : (m : Market) (s : Side) (os : List Order) → Every (λ o. side_of o ≡ s) (ranking_of m s os)
 unfolding ranking_of
 ranking_side m s [] = tt
 ranking_side m s (o ∷ os) =
     let later = ranking_side m s os in
-    if_both (same_side (side_of o) s) (placed m s o (ranking_of m s os)) (ranking_of m s os) (All (λ o. side_of o ≡ s))
+    if_both (same_side (side_of o) s) (placed m s o (ranking_of m s os)) (ranking_of m s os) (Every (λ o. side_of o ≡ s))
     (λ e. placed_all m s (λ o. side_of o ≡ s) o (ranking_of m s os) (same_side_is (side_of o) s e) later) (λ _. later)
 
 ranking_has : (m : Market) (s : Side) (os : List Order) (y : Order) → side_of y ≡ s → In y os → In y (ranking_of m s os)
@@ -93,7 +93,7 @@ ranking_has m s (o ∷ os) y e (inr i) =
     if_both (same_side (side_of o) s) (placed m s o (ranking_of m s os)) (ranking_of m s os) (In y)
     (λ _. placed_old m s o y (ranking_of m s os) later) (λ _. later)
 
-ascending_above : (low : ℕ) (os : List Order) → Ascending low os → All (λ o. low < o.number) os
+ascending_above : (low : ℕ) (os : List Order) → Ascending low os → Every (λ o. low < o.number) os
 ascending_above low [] h = tt
 ascending_above low (o ∷ os) h =
     (h.0, All-weaker (λ (x : Order). o.number < x.number) _ (λ x l. omega (arith, h.0)) os (ascending_above o.number os h.1))
@@ -133,10 +133,10 @@ same_ranking m s (x ∷ xs) (y ∷ ys) f g h k = both (first (f x (inl refl)) (g
     first (inr i) (inl e) = sym e
     first (inr i) (inr j) = absurd (before_not_back m s x y (in_all _ xs y h.0 j) (in_all _ ys x k.0 i))
 
-    not_again : (a : Order) (as_before : List Order) → All (λ z. ranks_before m s a z ≡ true) as_before → In a as_before → ⊥
+    not_again : (a : Order) (as_before : List Order) → Every (λ z. ranks_before m s a z ≡ true) as_before → In a as_before → ⊥
     not_again a zs l i = before_not_back m s a a (in_all _ zs a l i) (in_all _ zs a l i)
 
-    later : (a b : Order) (as_before bs : List Order) → a ≡ b → All (λ z. ranks_before m s a z ≡ true) as_before
+    later : (a b : Order) (as_before bs : List Order) → a ≡ b → Every (λ z. ranks_before m s a z ≡ true) as_before
         → ((o : Order) → In o (a ∷ as_before) → In o (b ∷ bs)) → (o : Order) → In o as_before → In o bs
     later a b zs bs e l q o i = elim (q o (inr i)) [ inl p ↦ absurd (not_again a zs l (subst (λ v. In v zs) (p ∙ sym e) i)) | inr j ↦ j ]
 

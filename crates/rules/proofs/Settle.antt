@@ -3,7 +3,7 @@
 -- Cite: due_is, due_none, settle_then, settled, settle_still, each_fewer.
 use Rattle.std.proofs.Common.{◌≡◌, ℕ, zero, suc, ◌+◌, ◌<◌, ◌≤◌, leb, ◌⊎◌, List, [], ◌∷◌, length, Some, None, Option, sym, refl, ap, ◌∙◌, subst, inl, inr, arith}
 use Rattle.std.proofs.lemmas.Bool.{and_parts, leb-true, leb-false, le-leb}
-use Rattle.std.specs.List.{AllByRecursion as All}
+use Rattle.std.specs.List.{AllByRecursion as Every}
 use Rattle.terms.specs.Sides.{same_side}
 use Rattle.terms.specs.declared.kinds.Side.{Side}
 use Rattle.terms.specs.declared.kinds.Side.TheVariants.{Buy, Sell}
@@ -24,12 +24,12 @@ abbrev pub weight : Market → ℕ
 weight m = length m.orders + (one_if m.buy_end + one_if m.sell_end)
 
 -- those that are swept at the end of a side's period are of that side
-pub those_side : (s : Side) (os : List Order) → All (λ o. side_of o ≡ s) (those (protected_on s) os)
+pub those_side : (s : Side) (os : List Order) → Every (λ o. side_of o ≡ s) (those (protected_on s) os)
 unfolding those
 those_side s [] = tt
 those_side s (o ∷ os) =
     let h = those_side s os in
-    if_both (protected_on s o) (o ∷ those (protected_on s) os) (those (protected_on s) os) (λ r. All (λ z. side_of z ≡ s) r)
+    if_both (protected_on s o) (o ∷ those (protected_on s) os) (those (protected_on s) os) (λ r. Every (λ z. side_of z ≡ s) r)
     (λ e. (same_side_is (side_of o) s (and_parts o.terms.qdp (same_side (side_of o) s) e).1, h))
     (λ _. h)
 
@@ -44,7 +44,7 @@ unfolding sweep_each
 each_fewer t [] m = inl refl
 each_fewer t (o ∷ os) m = fewer_then m (sweep t o m) _ (sweep_fewer t o m) (each_fewer t os (sweep t o m))
 
-pub each_end : (t : ℕ) (s : Side) (os : List Order) (m : Market) → All (λ o. side_of o ≡ s) os → end_of s (sweep_each t os m) ≡ end_of s m
+pub each_end : (t : ℕ) (s : Side) (os : List Order) (m : Market) → Every (λ o. side_of o ≡ s) os → end_of s (sweep_each t os m) ≡ end_of s m
 unfolding sweep_each
 each_end t s [] m a = refl
 each_end t s (o ∷ os) m a =

@@ -3,7 +3,7 @@
 -- The law is ticks_change_only_the_clock.
 use Rattle.std.proofs.Common.{◌≡◌, ℕ, ◌-◌, ◌≤◌, true, ◌&&◌, leb, ◌⊎◌, List, [], ◌∷◌, length, None, sym, refl, ap, ◌∙◌, subst, inl, inr, arith}
 use Rattle.std.proofs.lemmas.Bool.{le-leb, leb-true, and_parts, cases_Bool}
-use Rattle.std.specs.List.{AllByRecursion as All}
+use Rattle.std.specs.List.{AllByRecursion as Every}
 use Rattle.terms.specs.declared.kinds.Side.TheVariants.{Buy, Sell}
 use Rattle.rules.specs.declared.refusal.Refusal.{Refusal}
 use Rattle.rules.specs.declared.refusal.Refusal.TheVariants.{TapeShort, Identifier, Time}
@@ -55,7 +55,7 @@ quiet (d ∷ ds) c =
     record { answers = o.answer ∷ r.answers; book = r.book }
 
 abbrev Near : Book → Book → List Call → Type 0
-Near c b ds = (b.clock ≡ c.clock) ⊎ All (λ d. b.clock ≤ time_of d) ds
+Near c b ds = (b.clock ≡ c.clock) ⊎ Every (λ d. b.clock ≤ time_of d) ds
 
 record Stepped (o p : Outcome) (b c : Book) : Type 0 where
   answer : o.answer ≡ p.answer
@@ -142,9 +142,9 @@ near_tail : (b c : Book) (d : Call) (ds : List Call) → Near c b (d ∷ ds) →
 near_tail b c d ds (inl e) = inl e
 near_tail b c d ds (inr a) = inr a.1
 
-near_tick : (t : ℕ) (b r c : Book) (ds : List Call) → All (λ d. t ≤ time_of d) ds → ((r ≡ b) ⊎ (r.clock ≡ t)) → Near c b ds → Near c r ds
+near_tick : (t : ℕ) (b r c : Book) (ds : List Call) → Every (λ d. t ≤ time_of d) ds → ((r ≡ b) ⊎ (r.clock ≡ t)) → Near c b ds → Near c r ds
 near_tick t b r c ds a (inl e) q = subst (λ v. Near c v ds) (sym e) q
-near_tick t b r c ds a (inr e) q = inr (subst (λ k. All (λ d. k ≤ time_of d) ds) (sym e) a)
+near_tick t b r c ds a (inr e) q = inr (subst (λ k. Every (λ d. k ≤ time_of d) ds) (sym e) a)
 
 heads : {X : Type 0} {x y : X} {xs ys : List X} → x ≡ y → xs ≡ ys → (x ∷ xs) ≡ (y ∷ ys)
 heads e f = cc

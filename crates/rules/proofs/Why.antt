@@ -2,7 +2,7 @@
 -- the period that runs; so the search over the tape ends at that line.
 use Rattle.std.proofs.Common.{◌≡◌, ℕ, suc, ◌+◌, ◌*◌, true, false, cond, eqb, List, [], ◌∷◌, ◌++◌, length, is_some, Some, None, Option, sym, refl, ap, ◌∙◌, inl, inr, arith}
 use Rattle.std.proofs.lemmas.Bool.{true≢false, and_parts, eqb-true, eqb-false}
-use Rattle.std.specs.List.{AllByRecursion as All, slice_get}
+use Rattle.std.specs.List.{AllByRecursion as Every, slice_get}
 use Rattle.terms.specs.Terms.{is_mdo}
 use Rattle.terms.specs.declared.kinds.Side.{Side}
 use Rattle.terms.specs.declared.kinds.Side.TheVariants.{Buy, Sell}
@@ -32,13 +32,13 @@ marked_is : (s : Side) → is_mark s (side_mark s) ≡ true
 marked_is Buy = refl
 marked_is Sell = refl
 
-latest_none : (s : Side) (place found : ℕ) (ls : List Line) → All (λ (l : Line). l.mark ≡ side_mark s → ⊥) ls → latest_from s place found ls ≡ found
+latest_none : (s : Side) (place found : ℕ) (ls : List Line) → Every (λ (l : Line). l.mark ≡ side_mark s → ⊥) ls → latest_from s place found ls ≡ found
 latest_none s place found [] h = refl
 latest_none s place found (l ∷ ls) h =
     ap (λ v. latest_from s (place + 1) (cond v (place + 1) found) ls) (not_marked s l.mark h.0) ∙ latest_none s (place + 1) found ls h.1
 
 latest_at : (s : Side) (place found : ℕ) (earlier : List Line) (l : Line) (later : List Line) → l.mark ≡ side_mark s
-    → All (λ (z : Line). z.mark ≡ side_mark s → ⊥) later
+    → Every (λ (z : Line). z.mark ≡ side_mark s → ⊥) later
     → latest_from s place found (earlier ++ (l ∷ later)) ≡ place + suc (length earlier)
 latest_at s place found [] l later e h =
     ap (λ v. latest_from s (place + 1) (cond v (place + 1) found) later) (ap (is_mark s) e ∙ marked_is s) ∙ latest_none s (place + 1) (place + 1) later h

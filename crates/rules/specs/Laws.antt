@@ -1,6 +1,6 @@
 -- The laws, each in a sentence. A run is any list of calls on a new book, and its tape has room for `room` lines.
 use Rattle.std.specs.Prelude.{◌≡◌, ℕ, ◌+◌, ◌*◌, ◌<◌, ◌≤◌, Bool, true, false, ◌⊎◌, ◌↔◌, List, [], ◌∷◌, length, Some, None, Option, ◌≢◌}
-use Rattle.std.specs.List.{ContainsAt as Has, AllByRecursion as All}
+use Rattle.std.specs.List.{ContainsAt as Has, AllByRecursion as Every}
 use Rattle.terms.specs.declared.kinds.Side.{Side}
 use Rattle.terms.specs.declared.kinds.Side.TheVariants.{Buy, Sell}
 use Rattle.terms.specs.Terms.{is_mdo}
@@ -42,11 +42,11 @@ TicksInTime [] = Unit {0}
 TicksInTime (entry t id w ∷ cs) = TicksInTime cs
 TicksInTime (cancel t id ∷ cs) = TicksInTime cs
 TicksInTime (quote t bid offer ∷ cs) = TicksInTime cs
-TicksInTime (tick t ∷ cs) = All (λ c. t ≤ time_of c) (shared cs) × TicksInTime cs
+TicksInTime (tick t ∷ cs) = Every (λ c. t ≤ time_of c) (shared cs) × TicksInTime cs
 
 -- no call was refused for want of free lines
 abbrev pub TapeNeverShort : List Answer → Type 0
-TapeNeverShort zs = All (λ a. a ≢ refused TapeShort) zs
+TapeNeverShort zs = Every (λ a. a ≢ refused TapeShort) zs
 
 -- of two runs, each with its calls, its answers and the book that it leaves: if the calls agree but for ticks, the shared calls
 -- are answered alike, and the books, tapes included, are equal exactly when their clocks are
@@ -82,7 +82,7 @@ Protected b o =
 -- a resting MDO reaches no further than it ranks exactly if it ranks at its limit or at the midpoint, or is protected
 abbrev pub DiscretionExplained : Book → Type 0
 DiscretionExplained b =
-    All (λ o. is_mdo o.terms.kind ≡ true
+    Every (λ o. is_mdo o.terms.kind ≡ true
     → (ranked_in b.market o ≡ reach_in b.market o)
     ↔ ((ranked_in b.market o ≡ 2 * o.terms.limit)
     ⊎ ((ranked_in b.market o ≡ b.market.bid + b.market.offer) ⊎ Protected b o)))
@@ -93,7 +93,7 @@ abbrev pub TapeExplainsDiscretion : Type 0
 TapeExplainsDiscretion =
     (bid offer room : ℕ) (calls : List Call)
     → let b : Book = (run room calls (opened bid offer)).book in
-    All (λ o. is_mdo o.terms.kind ≡ true
+    Every (λ o. is_mdo o.terms.kind ≡ true
     → (ranked_in b.market o ≡ reach_in b.market o)
     ↔ ((ranked_in b.market o ≡ 2 * o.terms.limit)
     ⊎ ((ranked_in b.market o ≡ b.market.bid + b.market.offer) ⊎ Protected b o)))
@@ -112,27 +112,27 @@ Reason b o discretion = ranked_in b.market o ≡ reach_in b.market o → ⊥
 
 -- the reason that is told of each resting order holds
 abbrev pub Reasoned : Book → Type 0
-Reasoned b = All (λ o. Reason b o (why b.market o)) b.market.orders
+Reasoned b = Every (λ o. Reason b o (why b.market o)) b.market.orders
 
 -- so it is after every run
 abbrev pub ReasonsHold : Type 0
 ReasonsHold =
     (bid offer room : ℕ) (calls : List Call)
     → let b : Book = (run room calls (opened bid offer)).book in
-    All (λ o. Reason b o (why b.market o)) b.market.orders
+    Every (λ o. Reason b o (why b.market o)) b.market.orders
 
 -- Never crossed
 
 -- every resting buy's reach is below every resting sell's
 abbrev pub Uncrossed : Market → Type 0
-Uncrossed m = All (λ x. All (λ y. side_of x ≡ Buy → side_of y ≡ Sell → reach_in m x < reach_in m y) m.orders) m.orders
+Uncrossed m = Every (λ x. Every (λ y. side_of x ≡ Buy → side_of y ≡ Sell → reach_in m x < reach_in m y) m.orders) m.orders
 
 -- so it is after every run
 abbrev pub NeverCrossed : Type 0
 NeverCrossed =
     (bid offer room : ℕ) (calls : List Call)
     → let m : Market = (run room calls (opened bid offer)).book.market in
-    All (λ x. All (λ y. side_of x ≡ Buy → side_of y ≡ Sell → reach_in m x < reach_in m y) m.orders) m.orders
+    Every (λ x. Every (λ y. side_of x ≡ Buy → side_of y ≡ Sell → reach_in m x < reach_in m y) m.orders) m.orders
 
 -- Lines within orders
 
@@ -147,9 +147,9 @@ LinesWithinOrders =
 
 -- the chosen order is a partner and no partner goes ahead of it; where none is chosen there is none
 abbrev pub Chosen : Market → Side → ℕ → List Order → Option Order → Type 0
-Chosen m s p os None = All (λ y. is_partner m s p y ≡ false) os
+Chosen m s p os None = Every (λ y. is_partner m s p y ≡ false) os
 Chosen m s p os (Some x) =
-    Has os x × (is_partner m s p x ≡ true) × All (λ y. is_partner m s p y ≡ true → ahead m s p y x ≡ false) os
+    Has os x × (is_partner m s p x ≡ true) × Every (λ y. is_partner m s p y ≡ true → ahead m s p y x ≡ false) os
 
 abbrev pub BestPartner : Type 0
 BestPartner = (m : Market) (s : Side) (p : ℕ) → Chosen m s p m.orders (next_partner m s p m.orders)
@@ -207,7 +207,7 @@ abbrev pub NumbersAscend : Type 0
 NumbersAscend =
     (bid offer room : ℕ) (calls : List Call)
     → let b : Book = (run room calls (opened bid offer)).book in
-    Ascending 0 b.market.orders × All (λ o. o.number ≤ b.entries) b.market.orders × (b.entries ≤ most_entries)
+    Ascending 0 b.market.orders × Every (λ o. o.number ≤ b.entries) b.market.orders × (b.entries ≤ most_entries)
 
 -- How many rest, and with how many shares
 
@@ -222,7 +222,7 @@ OrdersWithinPlaces =
 abbrev pub SharesRemain : Type 0
 SharesRemain =
     (bid offer room : ℕ) (calls : List Call)
-    → All (λ o. (o.left ≤ o.terms.shares) × (fewest_left ≤ o.terms.shares → fewest_left ≤ o.left))
+    → Every (λ o. (o.left ≤ o.terms.shares) × (fewest_left ≤ o.terms.shares → fewest_left ≤ o.left))
     (run room calls (opened bid offer)).book.market.orders
 
 -- The ranked question

@@ -1,6 +1,6 @@
 -- Questions, which alter nothing, and the figures at the close.
 use Rattle.std.specs.Prelude.{◌≡◌, ℕ, zero, suc, ◌+◌, ◌*◌, Bool, true, false, cond, List, [], ◌∷◌, Some, None, sum_by, count_by, Option, ◌==◌}
-use Rattle.std.specs.List.{ContainsAt as Has, AllByRecursion as All, slice_get}
+use Rattle.std.specs.List.{ContainsAt as Has, AllByRecursion as Every, slice_get}
 use Rattle.terms.specs.declared.kinds.Side.{Side}
 use Rattle.terms.specs.declared.kinds.Side.TheVariants.{Buy, Sell}
 use Rattle.terms.specs.Sides.{same_side}
@@ -22,7 +22,7 @@ ranks_before m s x y =
 -- each is ranked before all that follow it, and so none occurs twice
 abbrev pub InRank : Market → Side → List Order → Type 0
 InRank m s [] = Unit {0}
-InRank m s (x ∷ xs) = All (λ y. ranks_before m s x y ≡ true) xs × InRank m s xs
+InRank m s (x ∷ xs) = Every (λ y. ranks_before m s x y ≡ true) xs × InRank m s xs
 
 -- the orders are those that rest on the side, each once, in rank
 pub record Ranking (m : Market) (s : Side) (os : List Order) : Type 0 where

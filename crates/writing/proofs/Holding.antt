@@ -2,7 +2,7 @@
 -- Cite holds_order with lawful_width for one order, kept_same for one that is kept, wholes_more and wholes_stop for a
 -- list of them, answer_reads for a whole register.
 use Rattle.std.proofs.Common.{◌≡◌, ℕ, ◌+◌, ◌-◌, ◌^◌, ◌<◌, ◌≤◌, Bool, true, false, cond, leb, List, [], ◌∷◌, ◌++◌, length, take, drop, ℤ, pos, negsuc, Result, sym, refl, ap, ◌∙◌, subst, append_assoc, append-nil, arith, MatchResult}
-use Rattle.std.specs.List.{AllByRecursion as All}
+use Rattle.std.specs.List.{AllByRecursion as Every}
 use Rattle.std.proofs.lemmas.List.{length-append, length-take-le, take_at, flat_map_more}
 use Rattle.std.proofs.ByRecursion.{All-push}
 use Rattle.std.proofs.lemmas.Bool.{leb-true, and_parts, cond-true, cond-false}
@@ -51,7 +51,7 @@ left_below : (b : List ℕ) (m : ℕ) (xs : List ℕ) → m ≤ length b → tak
 left_below b m xs h = take_at (take m b) (xs ++ drop (m + length xs) b) m (length-take-le m b h)
 
 -- bytes that are those of orders are read as these orders
-holds_so : (p : Page) (os : List Listed) → p.mark ≤ length p.bytes → take p.mark p.bytes ≡ register_bytes os → All InWidth os → Holds p os
+holds_so : (p : Page) (os : List Listed) → p.mark ≤ length p.bytes → take p.mark p.bytes ≡ register_bytes os → Every InWidth os → Holds p os
 holds_so p os within bytes widths =
     record { within = within; bytes = bytes; widths = widths; reads = subst (λ bs. ReadsAs p.mark bs os) (sym bytes) (reads_back p.mark os widths) }
 

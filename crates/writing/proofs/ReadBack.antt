@@ -1,6 +1,6 @@
 -- Reading the bytes that were written of orders, row by row. Cite reads_back.
 use Rattle.std.proofs.Common.{◌≡◌, ℕ, ◌+◌, ◌-◌, ◌*◌, ◌/◌, ◌%◌, ◌≤◌, Bool, true, false, not, ◌&&◌, eqb, leb, List, [], ◌∷◌, ◌++◌, length, take, drop, ℤ, pos, negsuc, Some, None, Ok, Err, Result, refl, ap, ◌∙◌, append_assoc, append-nil, arith}
-use Rattle.std.specs.List.{flat_map, AllByRecursion as All}
+use Rattle.std.specs.List.{flat_map, AllByRecursion as Every}
 use Rattle.std.proofs.lemmas.List.{length-append, take_at, drop_at}
 use Rattle.std.proofs.lemmas.Bool.{le-leb, leb-true, leb-false, eq-eqb, ne_eqb, and_right, and_from}
 use Rattle.terms.specs.declared.kinds.Draft.{Draft}
@@ -158,7 +158,7 @@ no_short_name o more h =
     ap has_short_name (written_out 0 0 o.identifier o.draft more)
     ∙ ap (λ t. elim t as (λ _. Bool) [ None ↦ false | Some x ↦ next_byte_is 6 x.rest ]) (taken_back 1 o.identifier rest h)
 
-pub reads_back : (total : ℕ) (os : List Listed) → All InWidth os → ReadsAs total (register_bytes os) os
+pub reads_back : (total : ℕ) (os : List Listed) → Every InWidth os → ReadsAs total (register_bytes os) os
 reads_back total [] ws = refl
 reads_back total (o ∷ os) ws =
     let more = register_bytes os in

@@ -1,6 +1,6 @@
 -- Writing an order that was read gives the bytes that it was read from, row by row. Cite writes_back.
 use Rattle.std.proofs.Common.{◌≡◌, ℕ, ◌+◌, ◌*◌, ◌/◌, ◌%◌, ◌<◌, Bool, true, false, not, ◌&&◌, eqb, leb, List, [], ◌∷◌, ◌++◌, length, get_or, take, drop, ℤ, pos, Some, None, Ok, Err, Option, Result, sym, refl, ap, ◌∙◌, subst, append-nil, arith}
-use Rattle.std.specs.List.{flat_map, AllByRecursion as All}
+use Rattle.std.specs.List.{flat_map, AllByRecursion as Every}
 use Rattle.std.proofs.lemmas.List.{length-take-le, take-append-drop}
 use Rattle.std.proofs.ByRecursion.{All-take, All-drop}
 use Rattle.std.proofs.lemmas.Bool.{leb-true, eqb-true, eqb-false, and_parts, not-true, true≢false}
@@ -19,10 +19,10 @@ use Rattle.writing.proofs.ReadBack.{missing_back, further, nothing_left, offset_
 -- a field that was taken, put together again
 pub record Again (bs : List ℕ) (x : Taken) : Type 0 where
   pub whole : field_bytes x.tag x.value ++ x.rest ≡ bs
-  pub value : All Byte x.value
-  pub rest : All Byte x.rest
+  pub value : Every Byte x.value
+  pub rest : Every Byte x.rest
 
-again_if : (t a b : ℕ) (bs : List ℕ) (x : Taken) (c : Bool) → a < 256 → b < 256 → All Byte bs → leb (a * 256 + b) (length bs) ≡ c → elim c as (λ _. Option Taken) [ true ↦ Some (record { tag = t; value = take (a * 256 + b) bs; rest = drop (a * 256 + b) bs }) | false ↦ None ] ≡ Some x → Again (t ∷ (a ∷ (b ∷ bs))) x
+again_if : (t a b : ℕ) (bs : List ℕ) (x : Taken) (c : Bool) → a < 256 → b < 256 → Every Byte bs → leb (a * 256 + b) (length bs) ≡ c → elim c as (λ _. Option Taken) [ true ↦ Some (record { tag = t; value = take (a * 256 + b) bs; rest = drop (a * 256 + b) bs }) | false ↦ None ] ≡ Some x → Again (t ∷ (a ∷ (b ∷ bs))) x
 again_if t a b bs x false ha hb all l e = absurd (let z : ◌≡◌ {A = ℕ} 0 1 = cc in omega arith)
 again_if t a b bs x true ha hb all l e =
     let n = a * 256 + b in
@@ -40,7 +40,7 @@ again_if t a b bs x true ha hb all l e =
       rest = All-drop Byte n bs all;
     })
 
-again : (bs : List ℕ) (x : Taken) → All Byte bs → take_field bs ≡ Some x → Again bs x
+again : (bs : List ℕ) (x : Taken) → Every Byte bs → take_field bs ≡ Some x → Again bs x
 again [] x all e = absurd (let z : ◌≡◌ {A = ℕ} 0 1 = cc in omega arith)
 again (t ∷ []) x all e = absurd (let z : ◌≡◌ {A = ℕ} 0 1 = cc in omega arith)
 again (t ∷ (a ∷ [])) x all e = absurd (let z : ◌≡◌ {A = ℕ} 0 1 = cc in omega arith)
@@ -106,7 +106,7 @@ codes_again (a ∷ (b ∷ (c ∷ []))) h = absurd (omega arith)
 codes_again (a ∷ (b ∷ (c ∷ (d ∷ [])))) h = refl
 codes_again (a ∷ (b ∷ (c ∷ (d ∷ (e ∷ v))))) h = absurd (omega arith)
 
-number_again : (v : List ℕ) → length v ≡ 4 → All Byte v → four_bytes (number_from v) ≡ v
+number_again : (v : List ℕ) → length v ≡ 4 → Every Byte v → four_bytes (number_from v) ≡ v
 number_again [] h all = absurd (omega arith)
 number_again (a ∷ []) h all = absurd (omega arith)
 number_again (a ∷ (b ∷ [])) h all = absurd (omega arith)
@@ -114,7 +114,7 @@ number_again (a ∷ (b ∷ (c ∷ []))) h all = absurd (omega arith)
 number_again (a ∷ (b ∷ (c ∷ (d ∷ [])))) h all = four_again a b c d all.0 all.1.0 all.1.1.0 all.1.1.1.0
 number_again (a ∷ (b ∷ (c ∷ (d ∷ (e ∷ v))))) h all = absurd (omega arith)
 
-offset_again : (v : List ℕ) → length v ≡ 2 → (number_from v ≡ 0 → ⊥) → All Byte v → (signed_bytes (signed_from v) ≡ v) × (is_zero (signed_from v) ≡ false)
+offset_again : (v : List ℕ) → length v ≡ 2 → (number_from v ≡ 0 → ⊥) → Every Byte v → (signed_bytes (signed_from v) ≡ v) × (is_zero (signed_from v) ≡ false)
 offset_again [] h nz all = absurd (omega arith)
 offset_again (a ∷ []) h nz all = absurd (omega arith)
 offset_again (a ∷ (b ∷ [])) h nz all = signed_again a b all.0 all.1.0 nz
@@ -134,16 +134,16 @@ module _ (total start : ℕ) (id v2 v3 v4 : List ℕ) where
       }
 
   -- an offset ends an order: it is there, or it is 0
-  ended : (rest : List ℕ) (d : Cursor) → All Byte rest → read_fields total start (offset_field ∷ []) (record { order = read (pos 0); rest = rest }) ≡ Ok d
-      → (z : ℤ) × (d.order ≡ read z) × (offset_part 0 0 id (read z).draft d.rest ++ d.rest ≡ rest) × All Byte d.rest
+  ended : (rest : List ℕ) (d : Cursor) → Every Byte rest → read_fields total start (offset_field ∷ []) (record { order = read (pos 0); rest = rest }) ≡ Ok d
+      → (z : ℤ) × (d.order ≡ read z) × (offset_part 0 0 id (read z).draft d.rest ++ d.rest ≡ rest) × Every Byte d.rest
   ended rest d all h = by_next (next_byte_is 5 rest) refl
     where
-      by_next : (b : Bool) → next_byte_is 5 rest ≡ b → (z : ℤ) × (d.order ≡ read z) × (offset_part 0 0 id (read z).draft d.rest ++ d.rest ≡ rest) × All Byte d.rest
+      by_next : (b : Bool) → next_byte_is 5 rest ≡ b → (z : ℤ) × (d.order ≡ read z) × (offset_part 0 0 id (read z).draft d.rest ++ d.rest ≡ rest) × Every Byte d.rest
       by_next false gone =
           let c : Cursor = record { order = read (pos 0); rest = rest } in
           let last : Ok c ≡ Ok d = sym (further total start offset_field [] c c (missing_back total start offset_field c refl gone) ∙ nothing_left total start c) ∙ h in
           let same : c ≡ d = cc in
-          (pos 0, ap (λ (e : Cursor). e.order) (sym same), ap (λ (e : Cursor). e.rest) (sym same), subst (λ (e : Cursor). All Byte e.rest) same all)
+          (pos 0, ap (λ (e : Cursor). e.order) (sym same), ap (λ (e : Cursor). e.rest) (sym same), subst (λ (e : Cursor). Every Byte e.rest) same all)
       by_next true there =
           let c : Cursor = record { order = read (pos 0); rest = rest } in
           let p = past total start offset_field [] c d (ap not there) h in
@@ -156,11 +156,11 @@ module _ (total start : ℕ) (id v2 v3 v4 : List ℕ) where
           let last : Ok e ≡ Ok d = sym (nothing_left total start e) ∙ p.then in
           let same : e ≡ d = cc in
           let written = ap (λ ts. flat_map tagged_bytes ts ++ x.rest) (offset_there (read z) back.1) ∙ ap (λ xs. xs ++ x.rest) (append-nil (field_bytes 5 (signed_bytes z))) ∙ tagged_again rest x 5 (signed_bytes z) a p.tag back.0 in
-          subst (λ (e : Cursor). (z : ℤ) × (e.order ≡ read z) × (offset_part 0 0 id (read z).draft e.rest ++ e.rest ≡ rest) × All Byte e.rest) same
+          subst (λ (e : Cursor). (z : ℤ) × (e.order ≡ read z) × (offset_part 0 0 id (read z).draft e.rest ++ e.rest ≡ rest) × Every Byte e.rest) same
           (z, refl, written, a.rest)
 
 -- one order: the bytes that were read, and those that follow
-pub order_again : (total start : ℕ) (bs : List ℕ) (d : Cursor) → All Byte bs → has_short_name bs ≡ false → read_fields total start layout (record { order = blank; rest = bs }) ≡ Ok d → (order_bytes d.order ++ d.rest ≡ bs) × All Byte d.rest
+pub order_again : (total start : ℕ) (bs : List ℕ) (d : Cursor) → Every Byte bs → has_short_name bs ≡ false → read_fields total start layout (record { order = blank; rest = bs }) ≡ Ok d → (order_bytes d.order ++ d.rest ≡ bs) × Every Byte d.rest
 order_again total start bs d all plain h =
     let p1 = past total start identifier_field (short_name_field ∷ ticket_layout) (record { order = blank; rest = bs }) d refl h in
     let x1 = p1.taken in
@@ -193,7 +193,7 @@ order_again total start bs d all plain h =
     (ap (λ o. order_bytes o ++ d.rest) e.1 ∙ written_out 0 0 id o.draft d.rest ∙ from_1, e.3)
 
 -- a whole register
-pub writes_back : (total : ℕ) (os : List Listed) (bs : List ℕ) → All Byte bs → ReadsAs total bs os → register_bytes os ≡ bs
+pub writes_back : (total : ℕ) (os : List Listed) (bs : List ℕ) → Every Byte bs → ReadsAs total bs os → register_bytes os ≡ bs
 writes_back total [] [] all h = refl
 writes_back total [] (b ∷ bs) all h = absurd (let z : ◌≡◌ {A = ℕ} 0 1 = cc in omega arith)
 writes_back total (o ∷ os) [] all h = absurd (let e = h.1 in let z : ◌≡◌ {A = ℕ} 0 1 = cc in omega arith)

@@ -1,6 +1,6 @@
 -- Writing and reading undo each other.
 use Rattle.std.specs.Prelude.{◌≡◌, ℕ, ◌^◌, ◌<◌, ◌≤◌, Bool, false, List, [], ◌∷◌, length, take, ℤ, pos, negsuc, Some, None, Ok}
-use Rattle.std.specs.List.{AllByRecursion as All}
+use Rattle.std.specs.List.{AllByRecursion as Every}
 use Rattle.terms.specs.Terms.{OrderTerms, ticket_from}
 use Rattle.register.specs.Layout.{Listed}
 use Rattle.register.specs.Reading.{take_field, next_byte_is, read_next}
@@ -35,7 +35,7 @@ pub record InWidth (o : Listed) : Type 0 where
 pub record Holds (p : Page) (os : List Listed) : Type 0 where
   pub within : p.mark ≤ length p.bytes
   pub bytes : take p.mark p.bytes ≡ register_bytes os
-  pub widths : All InWidth os
+  pub widths : Every InWidth os
   pub reads : ReadsAs p.mark (take p.mark p.bytes) os
 
 abbrev pub Byte : ℕ → Type 0
@@ -45,7 +45,7 @@ Byte b = b < 256
 abbrev pub WritingGivesTheRegisterAgain : Type 0
 WritingGivesTheRegisterAgain =
     (register : List ℕ) (orders : List Listed)
-    → All Byte register
+    → Every Byte register
     → ReadsAs (length register) register orders
     → register_bytes orders ≡ register
 

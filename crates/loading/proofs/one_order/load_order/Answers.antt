@@ -2,7 +2,7 @@ use Rattle.std.proofs.Common.{refl}
 use Rattle.terms.specs.Made.{ticket_terms}
 use Rattle.register.specs.Parts.{listed_of}
 use Rattle.loading.proofs.Attempts.{ticketed}
-use Rattle.loading.proofs.orders.load_order.Goals as goal
+use Rattle.loading.proofs.one_order.load_order.Goals as goal
 
 pub returns-in-Ok-enter : goal.returns-in-Ok-enter
 returns-in-Ok-enter g c sound =
