@@ -11,7 +11,8 @@ use crate::input::Input;
 use crate::options::Options;
 use crate::tapes::serve_on;
 use days::commands::{Command, Expected, read_command};
-use std::env;
+use std::process::ExitCode;
+use std::{env, io};
 use terms::lawful::Quote;
 
 // The first command must open the book.
@@ -41,12 +42,12 @@ fn run(rt: &HostRuntime) -> anyhow::Result<()> {
     Ok(())
 }
 
-fn main(rt: HostRuntime) -> anyhow::Result<()> {
+fn main(rt: HostRuntime) -> io::Result<ExitCode> {
     match run(&rt) {
-        Ok(()) => Ok(()),
+        Ok(()) => Ok(ExitCode::SUCCESS),
         Err(e) => {
             eprintln!(rt; "day: {e}")?;
-            Err(e)
+            Ok(ExitCode::FAILURE)
         }
     }
 }

@@ -14,6 +14,7 @@ use crate::makes::on_makes;
 use replay::calls::Call;
 use std::io;
 use std::io::Read;
+use std::process::ExitCode;
 
 fn tell(rt: &HostRuntime, name: &str, verdict: &Verdict) -> io::Result<()> {
     let shared = verdict.shared;
@@ -64,12 +65,12 @@ fn run(rt: &HostRuntime) -> anyhow::Result<()> {
     Ok(())
 }
 
-fn main(rt: HostRuntime) -> anyhow::Result<()> {
+fn main(rt: HostRuntime) -> io::Result<ExitCode> {
     match run(&rt) {
-        Ok(()) => Ok(()),
+        Ok(()) => Ok(ExitCode::SUCCESS),
         Err(e) => {
             eprintln!(rt; "rerun_day: {e}")?;
-            Err(e)
+            Ok(ExitCode::FAILURE)
         }
     }
 }

@@ -9,6 +9,7 @@ use anyhow::anyhow;
 use register::faults::Fault;
 use register::listed::Listed;
 use register::reader::Reader;
+use std::process::ExitCode;
 use std::{env, fs, io};
 use terms::lawful::Quote;
 use terms::show::HalfCents;
@@ -76,12 +77,12 @@ fn run(rt: &HostRuntime) -> anyhow::Result<()> {
     Ok(())
 }
 
-fn main(rt: HostRuntime) -> anyhow::Result<()> {
+fn main(rt: HostRuntime) -> io::Result<ExitCode> {
     match run(&rt) {
-        Ok(()) => Ok(()),
+        Ok(()) => Ok(ExitCode::SUCCESS),
         Err(e) => {
             eprintln!(rt; "sheet: {e}")?;
-            Err(e)
+            Ok(ExitCode::FAILURE)
         }
     }
 }
