@@ -1,5 +1,5 @@
 -- An entry, once the clock is at its time: its tests, and the new row's number and place. Cite name_test for the directory's
--- part of the tests, entry_refused and entry_passed for what follows of them, can-join and has_place for the new row.
+-- part of the tests, entry_refused and entry_passed for what follows of them, newest_counted for the new row's number.
 use Rattle.std.proofs.Common.{◌≡◌, ℕ, ◌+◌, ◌≤◌, Bool, true, false, leb, ◌⊎◌, List, [], ◌∷◌, map, is_some, Some, None, Ok, Err, Option, Result, sym, refl, ap, ◌∙◌, inl, inr, arith}
 use Rattle.std.specs.List.{AllByRecursion as Every}
 use Rattle.terms.specs.Terms.{OrderTerms}

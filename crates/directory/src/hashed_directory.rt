@@ -2,7 +2,6 @@ ghost use Rattle.std.specs.Prelude.{◌≡◌, [], IfOk, vec_len, MatchResult};
 ghost use Rattle.directory.specs.Table.{entries_in, Found_at, FreeAt};
 ghost use Rattle.directory.specs.Hashed.{hashed_number, hashed_count};
 ghost use Rattle.directory.specs.Pairs.{Emptied};
-ghost use Rattle.std.proofs.Common.{rules, arith};
 
 use crate::directories::{CAPACITY, Directory, PutRefusal};
 use crate::entries::Entry;
@@ -57,7 +56,7 @@ impl Directory for HashedDirectory {
 
     ghost count = { λ d. hashed_count d };
 
-    ghost few = { first_of (Prim.search rules, Prim.grind (arith, Self.row.coded.inj)) };
+    ghost few = { λ d. d.few };
 
     fn find(&self, id: &[u8]) -> Option<u32> {
         match self.look(id) {

@@ -2,7 +2,6 @@ ghost use Rattle.std.specs.Prelude.{◌≡◌, IfOk, Some, None, MatchOption};
 ghost use Rattle.directory.specs.Entries.{Stands};
 ghost use Rattle.directory.specs.Rows.{row_number, row_count};
 ghost use Rattle.directory.specs.Pairs.{Emptied};
-ghost use Rattle.std.proofs.Common.{rules, arith};
 
 use crate::directories::{CAPACITY, Directory, PutRefusal};
 use crate::identifiers::lawful_identifier;
@@ -40,7 +39,7 @@ impl Directory for RowDirectory {
 
     ghost count = { λ d. row_count d };
 
-    ghost few = { first_of (Prim.search rules, Prim.grind (arith, Self.row.coded.inj)) };
+    ghost few = { λ d. d.few };
 
     fn find(&self, id: &[u8]) -> Option<u32> {
         match self.row_of(id) {

@@ -1,4 +1,4 @@
--- A sweep, line by line. Cite lines_go for a line, lines_gone and lines_alone where it ends, room-for-line for the tape.
+-- A sweep, line by line. Cite lines_go for a line, lines_gone and lines_alone where it ends, line_free for the tape.
 use Rattle.std.proofs.Common.{◌≡◌, ℕ, zero, suc, ◌+◌, ◌≤◌, Bool, true, false, ◌&&◌, List, [], ◌∷◌, length, Some, None, fold, Option, sym, refl, ap, ◌∙◌, arith, length-append}
 use Rattle.terms.specs.Sides.{opposite, same_side, meets}
 use Rattle.terms.specs.declared.kinds.Side.{Side}

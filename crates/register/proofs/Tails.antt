@@ -1,5 +1,5 @@
 -- What is left to read is always the end of the register: the rest after a field, and so after an order, is a tail of
--- what was there before it. Cite tail_read_order for an order, tail_trans to go on to the next, value-is-part for a value.
+-- what was there before it. Cite tail_read_order for an order, tail_trans to go on to the next, stands_further for a value.
 use Rattle.std.proofs.Common.{◌≡◌, ℕ, suc, ◌+◌, ◌-◌, ◌*◌, ◌<◌, ◌≤◌, Bool, true, false, not, ◌&&◌, eqb, leb, List, [], ◌∷◌, length, take, drop, Some, None, Ok, Err, Option, Result, sym, refl, ap, ◌∙◌, subst, arith}
 use native.Mathlib.Nat.{sub_self}
 use Rattle.std.proofs.lemmas.Bool.{leb-true}

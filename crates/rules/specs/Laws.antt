@@ -168,8 +168,8 @@ left_by false free c b = b
 left_by true free c b = (call free (tick (time_of c)) b).book
 
 abbrev pub RefusalLeaves : Refusal → Bool → Type 0
-RefusalLeaves why clock-moves =
-    (free : ℕ) (c : Call) (b : Book) → (call free c b).answer ≡ refused why → (call free c b).book ≡ left_by clock-moves free c b
+RefusalLeaves why clock_moves =
+    (free : ℕ) (c : Call) (b : Book) → (call free c b).answer ≡ refused why → (call free c b).book ≡ left_by clock_moves free c b
 
 -- Entry numbers
 

@@ -115,16 +115,16 @@ module _ (total start : ℕ) (id : List ℕ) (d : Draft) (more : List ℕ) where
   offset_part = flat_map tagged_bytes (row_then 5 (offset_field.get listed) [])
 
   offset_back_if : (b : Bool) → is_zero d.offset ≡ b → In16Bits d.offset → next_byte_is 5 more ≡ false → read_fields total start (offset_field ∷ []) (record { order = with_it (pos 0); rest = offset_part ++ more }) ≡ Ok (record { order = with_it d.offset; rest = more })
-  offset_back_if true zero-there w gone =
-      ap (λ ts. read_fields total start (offset_field ∷ []) (record { order = with_it (pos 0); rest = flat_map tagged_bytes ts ++ more })) (offset_absent listed zero-there)
+  offset_back_if true zero_there w gone =
+      ap (λ ts. read_fields total start (offset_field ∷ []) (record { order = with_it (pos 0); rest = flat_map tagged_bytes ts ++ more })) (offset_absent listed zero_there)
       ∙ further total start offset_field [] _ (record { order = with_it (pos 0); rest = more }) (missing_back total start offset_field (record { order = with_it (pos 0); rest = more }) refl gone)
       ∙ nothing_left total start (record { order = with_it (pos 0); rest = more })
-      ∙ ap (λ z. Ok (record { order = with_it z; rest = more })) (zero_offset d.offset zero-there)
-  offset_back_if false some-there w gone =
+      ∙ ap (λ z. Ok (record { order = with_it z; rest = more })) (zero_offset d.offset zero_there)
+  offset_back_if false some_there w gone =
       let v = signed_bytes d.offset in
-      ap (λ ts. read_fields total start (offset_field ∷ []) (record { order = with_it (pos 0); rest = flat_map tagged_bytes ts ++ more })) (offset_there listed some-there)
+      ap (λ ts. read_fields total start (offset_field ∷ []) (record { order = with_it (pos 0); rest = flat_map tagged_bytes ts ++ more })) (offset_there listed some_there)
       ∙ ap (λ xs. read_fields total start (offset_field ∷ []) (record { order = with_it (pos 0); rest = xs ++ more })) (append-nil (field_bytes 5 v))
-      ∙ further total start offset_field [] _ (record { order = with_it (signed_from v); rest = more }) (field_back total start offset_field (with_it (pos 0)) v more (omega (arith, signed_long d.offset)) (signed_fits d.offset w some-there))
+      ∙ further total start offset_field [] _ (record { order = with_it (signed_from v); rest = more }) (field_back total start offset_field (with_it (pos 0)) v more (omega (arith, signed_long d.offset)) (signed_fits d.offset w some_there))
       ∙ nothing_left total start (record { order = with_it (signed_from v); rest = more })
       ∙ ap (λ z. Ok (record { order = with_it z; rest = more })) (signed_back d.offset w)
 
