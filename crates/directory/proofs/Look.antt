@@ -6,7 +6,7 @@ use Rattle.std.specs.Str.{bytes_eq}
 use Rattle.std.proofs.lemmas.Bool.{both_ways, cases_lt, cases_order}
 use Rattle.directory.specs.declared.entries.Entry.{Entry}
 use Rattle.directory.specs.Entries.{entry_id}
-use Rattle.directory.specs.Table.{Places, entries_in, taken, home_at, home_place, steps, Chained, Found_at, FreeAt}
+use Rattle.directory.specs.Table.{Places, entries_in, taken, home_at, home_place, steps, Chained, FoundAt, FreeAt}
 use Rattle.directory.proofs.Ring.{steps_below, steps_to, steps_one}
 use Rattle.directory.proofs.Distinct.{bytes_same, same_bytes}
 use Rattle.directory.proofs.Slots.{home_is, place_below, none_held, all_taken}
@@ -46,7 +46,7 @@ module _ (ps : Places) (id : List ℕ) (step place : ℕ) (w : Looking ps id ste
             (cases_lt (steps (home_place id) q) step);
       }
 
-  pub look_finds : (e : Entry) → get_or ps place None ≡ Some e → bytes_eq id (entry_id e) ≡ true → Found_at ps id place e.number
+  pub look_finds : (e : Entry) → get_or ps place None ≡ Some e → bytes_eq id (entry_id e) ≡ true → FoundAt ps id place e.number
   look_finds e here same =
       record { within = place_within; pair = e; here = here; own = sym (bytes_same id (entry_id e) same); told = refl }
 

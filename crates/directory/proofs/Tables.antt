@@ -4,7 +4,7 @@ use Rattle.std.proofs.Common.{◌≡◌, ℕ, zero, suc, ◌+◌, ◌<◌, ◌�
 use Rattle.std.proofs.lemmas.Bool.{both_ways, cases_eq}
 use Rattle.directory.specs.declared.entries.Entry.{Entry}
 use Rattle.directory.specs.Entries.{entry_id, number_in, distinct}
-use Rattle.directory.specs.Table.{Places, entries_in, taken, home_at, home_place, steps, Chained, Found_at, FreeAt, Gapped, Closed}
+use Rattle.directory.specs.Table.{Places, entries_in, taken, home_at, home_place, steps, Chained, FoundAt, FreeAt, Gapped, Closed}
 use Rattle.directory.proofs.Distinct.{distinct_between, distinct_without}
 use Rattle.directory.proofs.Changes.{pair_here, pair_others, pair_found}
 use Rattle.directory.proofs.Slots.{before, after, with_pair, without_pair, filled, freed, one_more, free_is, taken_here, taken_other, home_is, home_other}
@@ -80,7 +80,7 @@ gapped ps p e whole within has chained apart few =
     still a ta this = both_ways (taken (set ps p None) a) (ap (taken (set ps p None)) this ∙ taken_here ps p None (omega arith)) ta
 
 -- a pair that stands at a place
-pub found_number : (ps : Places) (id : List ℕ) (p n : ℕ) → length ps ≡ 128 → distinct (entries_in ps) ≡ true → Found_at ps id p n → number_in (entries_in ps) id ≡ Some n
+pub found_number : (ps : Places) (id : List ℕ) (p n : ℕ) → length ps ≡ 128 → distinct (entries_in ps) ≡ true → FoundAt ps id p n → number_in (entries_in ps) id ≡ Some n
 found_number ps id p n whole apart f =
     let pairs = with_pair ps p f.pair (omega (arith, f.within)) f.here in
     ap (number_in (entries_in ps)) (sym f.own)
@@ -118,7 +118,7 @@ module _ (ps : Places) (id : List ℕ) (p : ℕ) (e : Entry) (whole : length ps 
       ∙ ap (λ es. number_in es k) (sym pairs_were)
 
 -- a pair taken out, and the gap closed
-module _ (ps is : Places) (id : List ℕ) (p n : ℕ) (whole : length ps ≡ 128) (apart : distinct (entries_in ps) ≡ true) (f : Found_at ps id p n) (closed : Closed (set ps p None) is) where
+module _ (ps is : Places) (id : List ℕ) (p n : ℕ) (whole : length ps ≡ 128) (apart : distinct (entries_in ps) ≡ true) (f : FoundAt ps id p n) (closed : Closed (set ps p None) is) where
   with_it : entries_in ps ≡ before ps p ++ f.pair ∷ after ps p
   with_it = with_pair ps p f.pair (omega (arith, f.within)) f.here
 

@@ -41,7 +41,7 @@ abbrev pub Chained : Places → Type 0
 Chained ps = (x : Passed ps) → taken ps x.place ≡ true
 
 -- the identifier's pair, with the number n, stands at p
-pub record Found_at (ps : Places) (id : List ℕ) (p n : ℕ) : Type 0 where
+pub record FoundAt (ps : Places) (id : List ℕ) (p n : ℕ) : Type 0 where
   pub within : p < 128
   pub pair : Entry
   pub here : get_or ps p None ≡ Some pair

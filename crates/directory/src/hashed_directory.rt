@@ -1,5 +1,5 @@
 ghost use Rattle.std.specs.Prelude.{◌≡◌, [], IfOk, vec_len, MatchResult};
-ghost use Rattle.directory.specs.Table.{entries_in, Found_at, FreeAt};
+ghost use Rattle.directory.specs.Table.{entries_in, FoundAt, FreeAt};
 ghost use Rattle.directory.specs.Hashed.{hashed_number, hashed_count};
 ghost use Rattle.directory.specs.Pairs.{Emptied};
 
@@ -33,7 +33,7 @@ impl HashedDirectory {
     // Looks from the identifier's home on: the place and the number of its pair, or the free place where the look ends.
     fn look(&self, id: &[u8]) -> Result<(usize, u32), usize>
         ensures { MatchResult result
-            (λ found. Found_at self.now.places.items id.now found.0 found.1)
+            (λ found. FoundAt self.now.places.items id.now found.0 found.1)
             (λ p. FreeAt self.now.places.items id.now p) }
     {
         let home = home_place(id);

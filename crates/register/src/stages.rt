@@ -1,7 +1,7 @@
 // The fields of an order, one function for each form of value.
 ghost use Rattle.std.specs.Prelude.{◌≡◌, ◌≤◌, Bool, true, false, length, pos, MatchResult};
 ghost use Rattle.std.specs.Str.{bytes_eq};
-ghost use Rattle.register.specs.Layout.{Listed, short_name as shortName, short_name_field, offset_field, ticket_layout};
+ghost use Rattle.register.specs.Layout.{Listed, short_name as short_name_of, short_name_field, offset_field, ticket_layout};
 ghost use Rattle.register.specs.Reading.{read_four, read_field, read_fields, next_byte_is};
 ghost use Rattle.register.specs.Parts.{read_of, order_past, order_with_offset, order_with_draft};
 ghost use Rattle.register.specs.Numbers.{number_from};
@@ -12,7 +12,7 @@ use terms::kinds::Draft;
 
 // The identifier's first 12 bytes, filled up with blanks.
 fn short_name(identifier: &[u8]) -> [u8; 12]
-    ensures { result ≡ shortName identifier.now }
+    ensures { result ≡ short_name_of identifier.now }
 {
     let mut name = [b' '; 12];
     let n = identifier.len().min(12);
@@ -21,7 +21,7 @@ fn short_name(identifier: &[u8]) -> [u8; 12]
 }
 
 fn is_short_name(identifier: &[u8], value: &[u8]) -> bool
-    ensures { result ≡ bytes_eq value.now (shortName identifier.now) }
+    ensures { result ≡ bytes_eq value.now (short_name_of identifier.now) }
 {
     let name = short_name(identifier);
     value == &name[0..12]
