@@ -1,26 +1,13 @@
 // Bytes written as pairs of hexadecimal digits, parted by blanks.
-ghost use Rattle.std.specs.Prelude.{◌≡◌, ◌<◌, IfSome};
-
 use std::alloc::{AllocError, Global};
-
-fn digit(b: u8) -> Option<u8>
-    ensures { IfSome result (λ d. d < 16) }
-{
-    match b {
-        b'0'..=b'9' => Some(b - b'0'),
-        b'a'..=b'f' => Some(b - b'a' + 10),
-        b'A'..=b'F' => Some(b - b'A' + 10),
-        _ => None,
-    }
-}
 
 fn byte(pair: &[u8]) -> Option<u8> {
     let [high, low] = pair else {
         return None;
     };
-    let high = digit(*high)?;
-    let low = digit(*low)?;
-    Some(16 * high + low)
+    let high = char::from(*high).to_digit(16)?;
+    let low = char::from(*low).to_digit(16)?;
+    Some((16 * high + low) as u8)
 }
 
 // Nothing where the text is not of that form.

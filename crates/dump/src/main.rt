@@ -21,10 +21,10 @@ fn print_order(rt: &HostRuntime, order: Listed<'_>) -> io::Result<()> {
         ", shares {}, limit {}, offset {}",
         d.shares, d.limit, d.offset
     )?;
-    match order.ticket() {
-        Ok(_) => Ok(()),
-        Err(fault) => println!(rt; "  ticket refused {fault}"),
+    if let Err(fault) = order.ticket() {
+        println!(rt; "  ticket refused {fault}")?;
     }
+    Ok(())
 }
 
 fn print_register(rt: &HostRuntime, register: &[u8]) -> io::Result<()> {

@@ -4,16 +4,10 @@
 ghost use Rattle.std.specs.Prelude.{◌≡◌, length};
 ghost use Rattle.examples.specs.Table.{examples, ExamplesAsTold};
 
-fn how_many() -> usize
-    ensures { result ≡ length examples }
-{
-    39
-}
-
 // How many there are; that each comes out as told is the contract.
 pub fn worked_examples() -> usize
     ensures told { ExamplesAsTold }
     ensures count { result ≡ length examples }
 {
-    how_many()
+    39
 }

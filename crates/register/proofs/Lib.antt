@@ -1,4 +1,3 @@
 mod Chain
 mod Short
 pub mod Tails
-mod Taking

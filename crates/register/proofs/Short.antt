@@ -1,11 +1,8 @@
--- The short name, made by copying at most 12 bytes of the identifier over 12 blanks. Cite copied_is_short
--- for the copy, is_short for the comparison.
-use Rattle.std.proofs.Common.{◌≡◌, ℕ, zero, suc, ◌-◌, ◌<◌, ◌≤◌, min, Bool, ◌⊎◌, List, [], ◌∷◌, ◌++◌, length, take, drop, replicate, Decides, sym, refl, ap, ◌∙◌, subst, inl, inr, arith, rules}
+-- The short name, made by copying at most 12 bytes of the identifier over 12 blanks. Cite copied_is_short.
+use Rattle.std.proofs.Common.{◌≡◌, ℕ, zero, suc, ◌-◌, ◌<◌, ◌≤◌, min, ◌⊎◌, List, [], ◌∷◌, ◌++◌, length, take, drop, replicate, sym, refl, ap, ◌∙◌, inl, inr, arith}
 use native.Mathlib.Nat.{sub-zero, suc-sub-suc, zero-sub}
-use Rattle.std.specs.Str.{bytes_eq}
-use Rattle.std.proofs.lemmas.Slice.Eq.{bytes_eq-Decides}
 use borrow.Rule.Slice.PartMut.{post_of}
-use Rattle.std.proofs.lemmas.List.{take-replicate, drop-replicate, take_all, length-take}
+use Rattle.std.proofs.lemmas.List.{take-replicate, drop-replicate, take_all}
 use Rattle.std.proofs.lemmas.Bool.{cases_lt}
 use Rattle.register.specs.Layout.{short_name}
 
@@ -29,13 +26,3 @@ copied_is_short id ys n e h =
     ap (λ zs. zs ++ drop (n - 0) (replicate 12 32)) (h ∙ ap (λ k. take k id) (sub-zero n) ∙ taken id n e)
     ∙ ap (λ zs. take 12 id ++ zs) (drop-replicate (n - 0) 12 32 ∙ ap (λ k. replicate k 32) (omega arith))
     ∙ sym (filled 12 12 id (omega arith))
-
-tested : (xs ys : List ℕ) (r : Bool) → Decides r (xs ≡ ys) → r ≡ bytes_eq xs ys
-tested xs ys r h = search (rules, bytes_eq-Decides)
-
--- what `==` tells of a value and the 12 bytes of a short name
-pub is_short : (v id name : List ℕ) (r : Bool) → name ≡ short_name id → Decides r (v ≡ take 12 name) → r ≡ bytes_eq v (short_name id)
-is_short v id name r e d =
-    let same : take 12 name ≡ short_name id =
-    ap (λ z. take 12 z) e ∙ take_all 12 (short_name id) (simp length-take (omega arith))
-    in tested v (short_name id) r (subst (λ z. Decides r (v ≡ z)) same d)

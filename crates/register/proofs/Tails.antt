@@ -3,21 +3,18 @@
 use Rattle.std.proofs.Common.{◌≡◌, ℕ, suc, ◌+◌, ◌-◌, ◌*◌, ◌<◌, ◌≤◌, Bool, true, false, not, ◌&&◌, eqb, leb, List, [], ◌∷◌, length, take, drop, Some, None, Ok, Err, Option, Result, sym, refl, ap, ◌∙◌, subst, arith}
 use native.Mathlib.Nat.{sub_self}
 use Rattle.std.proofs.lemmas.Bool.{leb-true}
-use Rattle.std.proofs.lemmas.List.{length-drop, length-take-le, drop-drop, drop_all}
+use Rattle.std.proofs.lemmas.List.{length-drop, length-take-le, drop-drop}
 use Rattle.register.specs.declared.faults.Fault.{Fault}
 use Rattle.register.specs.declared.faults.Fault.TheVariants.{CutShort, Malformed}
 use Rattle.register.specs.Layout.{Field, layout, ticket_layout, identifier_field, short_name_field, blank}
 use Rattle.register.specs.Tails.{Tail, StandsAt}
-use Rattle.register.specs.Reading.{Taken, Cursor, place_in, take_field, next_byte_is, read_tagged, read_present, read_field, read_fields, read_order, read_next}
+use Rattle.register.specs.Reading.{Taken, Cursor, place_in, take_field, next_byte_is, read_tagged, read_present, read_field, read_fields, read_order}
 
 pub tail_all : (bs : List ℕ) → Tail bs bs
 tail_all bs = ap (λ k. drop k bs) (sub_self (length bs))
 
 pub tail_fits : (bs cs : List ℕ) → Tail bs cs → length cs ≤ length bs
 tail_fits bs cs e = omega (arith, ap length e, length-drop (length bs - length cs) bs)
-
-pub tail_none : (bs : List ℕ) → Tail bs []
-tail_none bs = drop_all (length bs - 0) bs (omega arith)
 
 pub tail_trans : (zs bs cs : List ℕ) → Tail zs bs → Tail bs cs → Tail zs cs
 tail_trans zs bs cs e f =
@@ -125,11 +122,3 @@ order_shortens total bs d e = named (read_tagged total (place_in total bs) bs 1)
 pub stands_further : (bs cs v : List ℕ) (k : ℕ) → Tail bs cs → StandsAt cs k v → StandsAt bs (length bs - length cs + k) v
 stands_further bs cs v k e h =
     ap (λ z. take (length v) z) (sym (drop-drop k (length bs - length cs) bs) ∙ ap (λ z. drop k z) e) ∙ h
-
-pub something_next : (total : ℕ) (bs : List ℕ) → 1 ≤ length bs → Some (read_order total bs) ≡ read_next total bs
-something_next total [] h = absurd (omega arith)
-something_next total (b ∷ bs) h = refl
-
-pub nothing_next : (total : ℕ) (bs : List ℕ) → length bs ≡ 0 → (None ≡ read_next total bs) × (bs ≡ [])
-nothing_next total [] h = (refl, refl)
-nothing_next total (b ∷ bs) h = absurd (omega arith)

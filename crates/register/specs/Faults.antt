@@ -1,5 +1,5 @@
 -- Number, layer and place of each fault. Layers: 1 the field, 2 the order, 3 the ticket.
-use Rattle.std.specs.Prelude.{ℕ, List, ◌++◌, Ok, Err, codes, decimal, Result}
+use Rattle.std.specs.Prelude.{ℕ, List, Ok, Err, codes, Result}
 use Rattle.terms.specs.Shown.{refusal_words}
 use Rattle.terms.specs.declared.kinds.Draft.{Draft}
 use Rattle.terms.specs.declared.lawful.Ticket.{Ticket as LawfulTicket}
@@ -7,6 +7,7 @@ use Rattle.terms.specs.Terms.{OrderTerms, ticket_from}
 use Rattle.terms.specs.Made.{ticket_terms}
 use Rattle.terms.specs.Codes.{refusal_number}
 use Rattle.register.specs.declared.faults.Fault.{Fault}
+use Rattle.register.specs.Reports.{told}
 use Rattle.register.specs.declared.faults.Fault.TheVariants.{CutShort, Malformed, Ticket}
 
 abbrev pub fault_number : Fault → ℕ
@@ -31,9 +32,7 @@ fault_words (Ticket why place) = refusal_words why
 
 -- as people read it: number, layer, place, words
 abbrev pub fault_text : Fault → List ℕ
-fault_text e =
-    decimal (fault_number e)
-    ++ (codes " (layer " ++ (decimal (fault_layer e) ++ (codes ", at " ++ (decimal (fault_place e) ++ (codes "): " ++ fault_words e)))))
+fault_text e = told (fault_number e) (fault_layer e) (fault_place e) (fault_words e)
 
 -- the ticket of an order that is listed at a place
 abbrev pub listed_ticket : ℕ → Draft → Result OrderTerms Fault

@@ -1,4 +1,5 @@
 pub mod Numbers
+pub mod Reports
 pub mod Faults
 pub mod Layout
 pub mod Reading

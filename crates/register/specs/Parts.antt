@@ -16,27 +16,28 @@ abbrev pub taken_of : Option Field → Option Taken
 taken_of None = None
 taken_of (Some f) = Some (field_of f)
 
-abbrev pub tagged_of : Result Field Fault → Result Taken Fault
-tagged_of (Ok f) = Ok (field_of f)
-tagged_of (Err e) = Err e
+-- the value of a field with this tag, and the bytes after it
+abbrev pub tagged_of : ℕ → Result (Bor (List ℕ)) Fault → List ℕ → Result Taken Fault
+tagged_of tag (Ok v) rest = Ok (record { tag = tag; value = v.now; rest = rest })
+tagged_of tag (Err e) rest = Err e
 
 -- something that was read, and the bytes after it
-abbrev pub read_of : {B : Type 0} → Result (B × Bor (List ℕ)) Fault → Result (B × List ℕ) Fault
-read_of (Ok x) = Ok (x.0, x.1.now)
-read_of (Err e) = Err e
+abbrev pub read_of : {B : Type 0} → Result B Fault → List ℕ → Result (B × List ℕ) Fault
+read_of (Ok x) rest = Ok (x, rest)
+read_of (Err e) rest = Err e
 
-abbrev pub order_with_draft : Listed → Result (Draft × Bor (List ℕ)) Fault → Result Cursor Fault
-order_with_draft o (Ok x) = Ok (record { order = with_draft x.0 o; rest = x.1.now })
-order_with_draft o (Err e) = Err e
+abbrev pub order_with_draft : Listed → Result Draft Fault → List ℕ → Result Cursor Fault
+order_with_draft o (Ok d) rest = Ok (record { order = with_draft d o; rest = rest })
+order_with_draft o (Err e) rest = Err e
 
 -- an order so far, and what follows a field that was read past
-abbrev pub order_past : Listed → Result (Bor (List ℕ)) Fault → Result Cursor Fault
-order_past o (Ok rest) = Ok (record { order = o; rest = rest.now })
-order_past o (Err e) = Err e
+abbrev pub order_past : Listed → Result (Unit {0}) Fault → List ℕ → Result Cursor Fault
+order_past o (Ok x) rest = Ok (record { order = o; rest = rest })
+order_past o (Err e) rest = Err e
 
-abbrev pub order_with_offset : Listed → Result (ℤ × Bor (List ℕ)) Fault → Result Cursor Fault
-order_with_offset o (Ok x) = Ok (record { order = with_draft (with_offset x.0 o.draft) o; rest = x.1.now })
-order_with_offset o (Err e) = Err e
+abbrev pub order_with_offset : Listed → Result ℤ Fault → List ℕ → Result Cursor Fault
+order_with_offset o (Ok z) rest = Ok (record { order = with_draft (with_offset z o.draft) o; rest = rest })
+order_with_offset o (Err e) rest = Err e
 
 abbrev pub listed_of : ListedOrder → Listed
 listed_of o = record { identifier = o.identifier.bytes.now; draft = o.draft }

@@ -2,16 +2,10 @@
 ghost use Rattle.std.specs.Prelude.{◌≡◌, length};
 ghost use Rattle.register.specs.Examples.{examples, ExamplesAsTold};
 
-fn how_many() -> usize
-    ensures { result ≡ length examples }
-{
-    9
-}
-
 // How many there are; that each comes out as told is the contract.
 pub fn examples_as_told() -> usize
     ensures told { ExamplesAsTold }
     ensures count { result ≡ length examples }
 {
-    how_many()
+    9
 }

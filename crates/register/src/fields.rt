@@ -1,9 +1,7 @@
 // One field: tag, two length bytes, value.
 ghost use Rattle.std.specs.Prelude.{◌≡◌};
-ghost use Rattle.register.specs.Reading.{take_field as take_field_of, read_tagged};
-ghost use Rattle.register.specs.Parts.{taken_of, tagged_of};
-
-use crate::faults::Fault;
+ghost use Rattle.register.specs.Reading.{take_field as take_field_of};
+ghost use Rattle.register.specs.Parts.{taken_of};
 
 // A field taken off the front of some bytes; value and rest are parts of them.
 #[derive(Clone, Copy, Drop)]
@@ -20,25 +18,10 @@ pub(crate) fn take_field(bytes: &[u8]) -> Option<Field<'_>>
         return None;
     };
     let len = usize::from(u16::from_be_bytes([*high, *low]));
-    if len > rest.len() {
-        return None;
-    }
+    let (value, rest) = rest.split_at_checked(len)?;
     Some(Field {
         tag: *tag,
-        value: &rest[0..len],
-        rest: &rest[len..],
+        value,
+        rest,
     })
-}
-
-// The field at the front, which must have this tag; its order begins at `start`, in a register of `total` bytes.
-pub(crate) fn tagged(total: usize, start: usize, rest: &[u8], tag: u8) -> Result<Field<'_>, Fault>
-    ensures { tagged_of result ≡ read_tagged total start rest.now tag }
-{
-    let Some(field) = take_field(rest) else {
-        return Err(Fault::CutShort(total.saturating_sub(rest.len())));
-    };
-    if field.tag != tag {
-        return Err(Fault::Malformed(start));
-    }
-    Ok(field)
 }

@@ -5,8 +5,7 @@ ghost use Rattle.register.specs.Tails.{StandsAt};
 ghost use Rattle.register.specs.Parts.{order_read};
 
 use crate::faults::Fault;
-use crate::fields::tagged;
-use crate::stages::{past_short_name, read_ticket};
+use crate::stages::Place;
 use terms::kinds::Draft;
 
 // The order at the front of `rest`, which ends a register of `total` bytes: identifier, ticket, and what follows.
@@ -16,8 +15,10 @@ pub(crate) fn read_order(total: usize, rest: &[u8]) -> Result<(&[u8], Draft, &[u
     ensures shorter { IfOk result (λ x. length x.2.now < length rest.now) }
 {
     let start = total.saturating_sub(rest.len());
-    let identifier = tagged(total, start, rest, 1)?;
-    let rest = past_short_name(total, start, identifier.rest, identifier.value)?;
-    let (draft, rest) = read_ticket(total, start, rest)?;
-    Ok((identifier.value, draft, rest))
+    let order = Place { total, start };
+    let mut rest = rest;
+    let identifier = order.value(&mut rest, 1)?;
+    order.short_name(&mut rest, identifier)?;
+    let draft = order.draft(&mut rest)?;
+    Ok((identifier, draft, rest))
 }

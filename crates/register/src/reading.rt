@@ -55,6 +55,11 @@ impl<'a> Reader<'a> {
 impl<'a> Iterator for Reader<'a> {
     type Item = Result<Listed<'a>, Fault>;
 
+    ghost next_gives = { λ s r t. (next_read r t.rest.now ≡ read_next (length s.register.now) s.rest.now)
+        × (t.register.now ≡ s.register.now)
+        × OnSome r (length t.rest.now < length s.rest.now)
+        × Placed s.register.now s.rest.now r t.rest.now };
+
     ghost remaining = { λ r. at_most (length r.rest.now) };
 
     fn next(&mut self) -> Option<Result<Listed<'a>, Fault>> {

@@ -5,7 +5,7 @@ mod prices;
 mod request;
 mod rows;
 
-use anyhow::anyhow;
+use anyhow::{anyhow, bail};
 use register::faults::Fault;
 use register::listed::Listed;
 use register::reader::Reader;
@@ -14,7 +14,7 @@ use std::{env, fs, io};
 use terms::lawful::Quote;
 use terms::show::HalfCents;
 
-#[derive(Clone, Copy, Drop)]
+#[derive(Clone, Copy, Default, Drop)]
 struct Counts {
     orders: usize,
     refused: usize,
@@ -47,10 +47,7 @@ fn print_sheet(rt: &HostRuntime, quote: Quote, register: &[u8]) -> io::Result<()
     let midpoint = HalfCents(quote.bid + quote.offer);
     println!(rt; "quote {bid} by {offer}, midpoint {midpoint}")?;
     rt.println(rows::heading(heap)?)?;
-    let mut counts = Counts {
-        orders: 0,
-        refused: 0,
-    };
+    let mut counts = Counts::default();
     for next in Reader::new(register) {
         match next {
             Ok(order) => print_order(rt, order, quote, &mut counts)?,
@@ -66,17 +63,15 @@ fn run(rt: &HostRuntime) -> anyhow::Result<()> {
     let heap = rt.alloc();
     let args: Vec<String> = env::args(rt)?.collect(heap)?;
     let [_, bid, offer, path] = args.as_slice() else {
-        return Err(anyhow!("usage: sheet BID OFFER REGISTER, bid and offer in whole cents"));
+        bail!("usage: sheet BID OFFER REGISTER, bid and offer in whole cents");
     };
-    let quote = request::quote(heap, bid.as_str(), offer.as_str())?;
-    let register = match fs::read(rt, path.as_str()) {
-        Ok(bytes) => bytes,
-        Err(e) => return Err(anyhow!(format!(in heap; "cannot read {path}: {e}")?)),
-    };
+    let quote = request::quote(bid.as_str(), offer.as_str())?;
+    let register = fs::read(rt, path.as_str()).map_err(|e| anyhow!("cannot read {path}: {e}"))?;
     print_sheet(rt, quote, register.as_slice())?;
     Ok(())
 }
 
+// As in the other programs that print their own faults: they share no library of ours that prints.
 fn main(rt: HostRuntime) -> io::Result<ExitCode> {
     match run(&rt) {
         Ok(()) => Ok(ExitCode::SUCCESS),

@@ -49,9 +49,12 @@ pub(crate) fn row(
     let ranked = format!(in heap; "{}", HalfCents(prices.ranked))?;
     let reach = format!(in heap; "{}", HalfCents(prices.reach))?;
     let protected = format!(in heap; "{}", HalfCents(prices.protected))?;
-    let side = terms.side.word();
-    let kind = terms.kind.words();
-    let shares = terms.shares;
+    let Terms {
+        side,
+        kind,
+        shares,
+        ..
+    } = terms;
     format!(in heap;
         "{identifier:<20}  {side:<4}  {kind:<15}  {shares:>7}  {limit:>9}  {offset:>6}  {ranked:>9}  {reach:>9}  {protected:>9}"
     )

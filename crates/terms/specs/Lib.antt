@@ -5,3 +5,5 @@ pub mod Prices
 pub mod Identifiers
 pub mod Made
 pub mod Shown
+pub mod PerSide
+pub mod Naming

@@ -1,25 +1,25 @@
-// The words of a ticket: side, kind and time in force.
+// The words of a ticket: side, kind and time in force, each with its code.
 
 #[derive(Clone, Copy, PartialEq, Eq, Debug, Drop)]
 pub enum Side {
-    Buy,
-    Sell,
+    Buy = 1,
+    Sell = 2,
 }
 
 // MDO: midpoint discretionary order.
 #[derive(Clone, Copy, PartialEq, Eq, Debug, Drop)]
 pub enum Kind {
-    DisplayedLimit,
-    HiddenLimit,
-    DisplayedMdo,
-    HiddenMdo,
-    MidpointPeg,
+    DisplayedLimit = 1,
+    HiddenLimit = 2,
+    DisplayedMdo = 3,
+    HiddenMdo = 4,
+    MidpointPeg = 5,
 }
 
 #[derive(Clone, Copy, PartialEq, Eq, Debug, Drop)]
 pub enum TimeInForce {
-    Rest,
-    ImmediateOrCancel,
+    Rest = 1,
+    ImmediateOrCancel = 2,
 }
 
 // A ticket in numbers, as it comes in and before it is judged: codes, shares, cents.
@@ -34,14 +34,14 @@ pub struct Draft {
     pub offset: i32,
 }
 
-// Why a ticket, a quote or an identifier is refused.
+// Why a ticket, a quote or an identifier is refused, each with its number.
 #[derive(Clone, Copy, PartialEq, Eq, Debug, Drop)]
 pub enum Refusal {
-    UnknownCode,
-    Shares,
-    Limit,
-    Offset,
-    Combination,
-    Quote,
-    Identifier,
+    UnknownCode = 1,
+    Shares = 2,
+    Limit = 3,
+    Offset = 4,
+    Combination = 5,
+    Quote = 6,
+    Identifier = 7,
 }

@@ -2,8 +2,10 @@
 #![tactic(auto)]
 
 pub mod codes;
+pub mod identifiers;
 pub mod kinds;
 pub mod lawful;
+pub mod per_side;
 pub mod prices;
 pub mod show;
 pub mod tickets;

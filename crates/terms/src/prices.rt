@@ -7,6 +7,7 @@ ghost use Rattle.terms.specs.Made.{terms_of};
 
 use crate::kinds::{Kind, Side};
 use crate::lawful::{Quote, Terms};
+use crate::tickets::TOP_PRICE;
 
 fn tamer(side: Side, p: u32, q: u32) -> u32
     ensures { result ≡ tamer_of side p q }
@@ -23,7 +24,7 @@ fn peg(side: Side, quote: Quote, offset: i32) -> u32
 {
     match side {
         Side::Buy => (2 * quote.bid.saturating_add_signed(offset)).max(2),
-        Side::Sell => (2 * quote.offer.saturating_add_signed(offset)).min(4_000_000),
+        Side::Sell => (2 * quote.offer.saturating_add_signed(offset)).min(2 * TOP_PRICE),
     }
 }
 

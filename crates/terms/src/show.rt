@@ -1,5 +1,6 @@
 // What people read of an order.
 ghost use Rattle.std.specs.Prelude.{◌≡◌, Some};
+ghost use Rattle.std.specs.Fmt.{padded};
 ghost use Rattle.terms.specs.Shown.{side_word, kind_words, refusal_words, in_dollars};
 
 use crate::kinds::{Kind, Refusal, Side};
@@ -13,6 +14,16 @@ impl Side {
             Side::Buy => "buy",
             Side::Sell => "sell",
         }
+    }
+}
+
+impl fmt::Display for Side {
+    ghost output = { λ side. Some (side_word side) };
+
+    ghost styled_output = { λ side spec. Some (padded spec (side_word side)) };
+
+    fn fmt<W: fmt::Write>(&self, f: &mut fmt::Formatter<W>) -> fmt::Result {
+        f.pad(self.word())
     }
 }
 
@@ -30,7 +41,18 @@ impl Kind {
     }
 }
 
+impl fmt::Display for Kind {
+    ghost output = { λ kind. Some (kind_words kind) };
+
+    ghost styled_output = { λ kind spec. Some (padded spec (kind_words kind)) };
+
+    fn fmt<W: fmt::Write>(&self, f: &mut fmt::Formatter<W>) -> fmt::Result {
+        f.pad(self.words())
+    }
+}
+
 impl Refusal {
+    // A text that lives on, since the words of faults are made of it.
     pub fn words(self) -> &'static str
         ensures { result.now ≡ refusal_words self }
     {
@@ -53,12 +75,9 @@ pub struct HalfCents(pub u32);
 impl fmt::Display for HalfCents {
     ghost output = { λ p. Some (in_dollars p.0) };
 
+    #[tactic(auto, using(crate::proofs::Dollars::dollars))]
     fn fmt<W: fmt::Write>(&self, f: &mut fmt::Formatter<W>) -> fmt::Result {
         let mills = u64::from(self.0) * 5;
-        let dollars = mills / 1000;
-        let dimes = mills / 100 % 10;
-        let cents = mills / 10 % 10;
-        let last = mills % 10;
-        write!(f, "{dollars}.{dimes}{cents}{last}")
+        write!(f, "{}.{:03}", mills / 1000, mills % 1000)
     }
 }

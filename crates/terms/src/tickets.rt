@@ -1,5 +1,5 @@
 // Tickets and quotes are made from numbers, or refused.
-ghost use Rattle.std.specs.Prelude.{◌≡◌};
+ghost use Rattle.std.specs.Prelude.{◌≡◌, ok_or};
 ghost use Rattle.terms.specs.Codes.{qdp_from};
 ghost use Rattle.terms.specs.Terms.{aggressive, go_together, judged, ticket_from, quote_from};
 ghost use Rattle.terms.specs.Made.{as_terms, as_prices};
@@ -7,13 +7,22 @@ ghost use Rattle.terms.specs.Made.{as_terms, as_prices};
 use crate::kinds::{Draft, Kind, Refusal, Side, TimeInForce};
 use crate::lawful::{Quote, Terms, Ticket};
 
-fn qdp_from_code(code: u8) -> Option<bool>
-    ensures { result ≡ qdp_from code }
+// Most shares of an order.
+pub const MOST_SHARES: u32 = 1_000_000;
+
+// In whole cents: no limit and no quote stands above it.
+pub const TOP_PRICE: u32 = 2_000_000;
+
+// In whole cents, to either side.
+pub const FARTHEST_OFFSET: i32 = 100;
+
+fn qdp_from_code(code: u8) -> Result<bool, Refusal>
+    ensures { result ≡ ok_or (qdp_from code) Refusal.UnknownCode }
 {
     match code {
-        0 => Some(false),
-        1 => Some(true),
-        _ => None,
+        0 => Ok(false),
+        1 => Ok(true),
+        _ => Err(Refusal::UnknownCode),
     }
 }
 
@@ -26,6 +35,7 @@ fn is_aggressive(side: Side, offset: i32) -> bool
     }
 }
 
+// The parts that the rule speaks of, in its order.
 fn parts_go_together(
     side: Side,
     kind: Kind,
@@ -35,47 +45,11 @@ fn parts_go_together(
 ) -> bool
     ensures { result ≡ go_together side kind time_in_force qdp offset }
 {
-    let ioc = matches!(time_in_force, TimeInForce::ImmediateOrCancel);
-    let hidden_mdo = matches!(kind, Kind::HiddenMdo);
+    let ioc = time_in_force == TimeInForce::ImmediateOrCancel;
+    let hidden_mdo = kind == Kind::HiddenMdo;
     (kind.is_mdo() || (offset == 0 && !qdp))
         && !(kind.is_mdo() && ioc)
         && (!is_aggressive(side, offset) || (hidden_mdo && !qdp))
-}
-
-fn judge(
-    side: Side,
-    kind: Kind,
-    time_in_force: TimeInForce,
-    qdp: bool,
-    shares: u32,
-    limit: u32,
-    offset: i32,
-) -> Result<Ticket, Refusal>
-    ensures { as_terms result ≡ judged (record { side = side; kind = kind; time_in_force = time_in_force; qdp = qdp; shares = shares; limit = limit; offset = offset }) }
-{
-    if !(1..=1_000_000).contains(&shares) {
-        return Err(Refusal::Shares);
-    }
-    if !(1..=2_000_000).contains(&limit) {
-        return Err(Refusal::Limit);
-    }
-    if !(-100..=100).contains(&offset) {
-        return Err(Refusal::Offset);
-    }
-    if !parts_go_together(side, kind, time_in_force, qdp, offset) {
-        return Err(Refusal::Combination);
-    }
-    Ok(Ticket {
-        terms: Terms {
-            side,
-            kind,
-            time_in_force,
-            qdp,
-            shares,
-            limit,
-            offset,
-        },
-    })
 }
 
 impl Ticket {
@@ -83,27 +57,39 @@ impl Ticket {
     pub fn new(draft: Draft) -> Result<Ticket, Refusal>
         ensures { as_terms result ≡ ticket_from draft }
     {
-        let Some(side) = Side::from_code(draft.side) else {
-            return Err(Refusal::UnknownCode);
-        };
-        let Some(kind) = Kind::from_code(draft.kind) else {
-            return Err(Refusal::UnknownCode);
-        };
-        let Some(time_in_force) = TimeInForce::from_code(draft.time_in_force) else {
-            return Err(Refusal::UnknownCode);
-        };
-        let Some(qdp) = qdp_from_code(draft.qdp) else {
-            return Err(Refusal::UnknownCode);
-        };
-        judge(
-            side,
-            kind,
-            time_in_force,
-            qdp,
-            draft.shares,
-            draft.limit,
-            draft.offset,
-        )
+        let side = Side::try_from(draft.side)?;
+        let kind = Kind::try_from(draft.kind)?;
+        let time_in_force = TimeInForce::try_from(draft.time_in_force)?;
+        let qdp = qdp_from_code(draft.qdp)?;
+        let Draft {
+            shares,
+            limit,
+            offset,
+            ..
+        } = draft;
+        if !(1..=MOST_SHARES).contains(&shares) {
+            return Err(Refusal::Shares);
+        }
+        if !(1..=TOP_PRICE).contains(&limit) {
+            return Err(Refusal::Limit);
+        }
+        if !(-FARTHEST_OFFSET..=FARTHEST_OFFSET).contains(&offset) {
+            return Err(Refusal::Offset);
+        }
+        if !parts_go_together(side, kind, time_in_force, qdp, offset) {
+            return Err(Refusal::Combination);
+        }
+        Ok(Ticket {
+            terms: Terms {
+                side,
+                kind,
+                time_in_force,
+                qdp,
+                shares,
+                limit,
+                offset,
+            },
+        })
     }
 
     pub fn terms(&self) -> Terms
@@ -125,7 +111,7 @@ impl Quote {
     pub fn new(bid: u32, offer: u32) -> Result<Quote, Refusal>
         ensures { as_prices result ≡ quote_from bid offer }
     {
-        if bid < 1 || bid >= offer || offer > 2_000_000 {
+        if bid < 1 || bid >= offer || offer > TOP_PRICE {
             return Err(Refusal::Quote);
         }
         Ok(Quote { bid, offer })

@@ -30,15 +30,15 @@ pub record Come (was : List ℕ) (m : ℕ) (all rest : List Tagged) (p : Page) :
   pub part : fitted (length was - m) all ≡ done ++ fitted (length was - (m + length done)) rest
   pub whole : flat_map tagged_bytes all ≡ done ++ flat_map tagged_bytes rest
 
-pub begun : (was : List ℕ) (m n : ℕ) (all : List Tagged) → n ≡ m → Come was m all all (record { bytes = was; mark = n })
-begun was m n all e =
+pub begun : (p : Page) {q : Page} (all : List Tagged) → q ≡ p → Come p.bytes p.mark all all q
+begun p {q} all e =
     record {
       done = [];
-      bytes = sym (put_none was m);
-      mark = e ∙ sym (add-zero m);
-      long = refl;
-      fit = ap (λ k. all_fit (length was - k) all) (sym (add-zero m));
-      part = ap (λ k. fitted (length was - k) all) (sym (add-zero m));
+      bytes = ap (λ (x : Page). x.bytes) e ∙ sym (put_none p.bytes p.mark);
+      mark = ap (λ (x : Page). x.mark) e ∙ sym (add-zero p.mark);
+      long = ap (λ (x : Page). length x.bytes) e;
+      fit = ap (λ k. all_fit (length p.bytes - k) all) (sym (add-zero p.mark));
+      part = ap (λ k. fitted (length p.bytes - k) all) (sym (add-zero p.mark));
       whole = refl;
     }
 

@@ -9,3 +9,4 @@ pub mod Holding
 mod WriteBack
 mod OrderSize
 pub mod Tickets
+mod Guards

@@ -1,5 +1,6 @@
 -- What a writer answers: done, or refused for want of room.
-use Rattle.std.specs.Prelude.{ℕ, Bool, cond, List, ◌++◌, Ok, Err, codes, decimal, Result}
+use Rattle.std.specs.Prelude.{ℕ, Bool, cond, List, Ok, Err, codes, Result}
+use Rattle.register.specs.Reports.{told}
 use Rattle.writing.specs.declared.fill.NoRoom.{NoRoom}
 
 -- done if it fits; else refused, at the place where the order begins
@@ -22,6 +23,4 @@ no_room_words = codes "no room for the order"
 
 -- as people read it: number, layer, place, words
 abbrev pub no_room_text : NoRoom → List ℕ
-no_room_text e =
-    decimal no_room_number
-    ++ (codes " (layer " ++ (decimal no_room_layer ++ (codes ", at " ++ (decimal e.place ++ (codes "): " ++ no_room_words)))))
+no_room_text e = told no_room_number no_room_layer e.place no_room_words

@@ -1,55 +1,74 @@
 // An order that is begun: unless it is finished, the mark goes back to where it began.
 ghost use Rattle.std.specs.Prelude.{◌≡◌, ◌-◌, length};
-ghost use Rattle.writing.specs.Filling.{fits, with_field};
+ghost use Rattle.writing.specs.Filling.{fits, room, with_field};
 ghost use Rattle.writing.specs.Refusal.{done_if};
+ghost use Rattle.writing.specs.Writers.{begun_page, SameGuard};
 
 use crate::fill::{Fill, NoRoom};
 
-pub(crate) struct Begun<'a> {
-    fill: &'a mut Fill,
+pub(crate) struct Begun<'a, 'b> {
+    buffer: &'a mut [u8],
+    fill: &'b mut Fill,
     start: Fill,
 }
 
-impl Drop for Begun<'_> {
+impl Drop for Begun<'_, '_> {
     fn drop(self)
-        ensures { self.exit.0.now ≡ self.entry.start }
+        ensures buffer { self.exit.0.now ≡ self.entry.buffer.now }
+        ensures fill { self.exit.1.0.now ≡ self.entry.start }
     {
         *self.fill = self.start;
-        let Begun { fill: _, start: _ } = self;
+        let Begun {
+            buffer: _,
+            fill: _,
+            start: _,
+        } = self;
     }
 }
 
-impl<'a> Begun<'a> {
-    pub(crate) fn new(fill: &'a mut Fill) -> Begun<'a>
-        ensures { (result.fill.ghost_name ≡ fill.entry.ghost_name) × (result.fill.now ≡ fill.old) × (result.start ≡ fill.old) }
+impl<'a, 'b> Begun<'a, 'b> {
+    pub fn new(buffer: &'a mut [u8], fill: &'b mut Fill) -> Begun<'a, 'b>
+        ensures buffer { (result.buffer.ghost_name ≡ buffer.entry.ghost_name) × (result.buffer.now ≡ buffer.old) }
+        ensures fill { (result.fill.ghost_name ≡ fill.entry.ghost_name) × (result.fill.now ≡ fill.old) }
+        ensures start { result.start ≡ fill.old }
     {
         let start = *fill;
-        Begun { fill, start }
+        Begun {
+            buffer,
+            fill,
+            start,
+        }
     }
 
     // The mark stays where it has come to.
-    pub(crate) fn finish(self)
-        ensures { self.exit.0.now ≡ self.entry.fill.now }
+    pub fn finish(self)
+        ensures buffer { self.exit.0.now ≡ self.entry.buffer.now }
+        ensures fill { self.exit.1.0.now ≡ self.entry.fill.now }
     {
-        let Begun { fill: _, start: _ } = self;
+        let Begun {
+            buffer: _,
+            fill: _,
+            start: _,
+        } = self;
     }
 
     // Puts a field at the mark, or nothing where it does not fit whole.
-    pub(crate) fn put(&mut self, buffer: &mut [u8], tag: u8, value: &[u8]) -> Result<(), NoRoom>
-        ensures page { record { bytes = buffer.new; mark = self.new.fill.now.mark } ≡ with_field (record { bytes = buffer.old; mark = self.old.fill.now.mark }) (record { tag = tag; value = value.now }) }
-        ensures outcome { result ≡ done_if (fits (length buffer.old - self.old.fill.now.mark) (record { tag = tag; value = value.now })) self.old.start.mark }
-        ensures guard { (self.new.fill.ghost_name ≡ self.old.fill.ghost_name) × (self.new.start ≡ self.old.start) }
+    pub fn put(&mut self, tag: u8, value: &[u8]) -> Result<(), NoRoom>
+        ensures page { begun_page self.new ≡ with_field (begun_page self.old) (record { tag = tag; value = value.now }) }
+        ensures outcome { result ≡ done_if (fits (room (begun_page self.old)) (record { tag = tag; value = value.now })) self.old.start.mark }
+        ensures guard { SameGuard self.old self.new }
     {
+        let no_room = NoRoom {
+            place: self.start.mark,
+        };
+        let buffer = &mut *self.buffer;
         let mark = self.fill.mark;
         let size = value.len();
-        if mark > buffer.len() || size > 65535 || buffer.len() - mark < 3 + size {
-            return Err(NoRoom {
-                place: self.start.mark,
-            });
+        let [high, low] = u16::try_from(size).map_err(|_| no_room)?.to_be_bytes();
+        if buffer.len().saturating_sub(mark) < 3 + size {
+            return Err(no_room);
         }
-        buffer[mark] = tag;
-        buffer[mark + 1] = (size / 256) as u8;
-        buffer[mark + 2] = (size % 256) as u8;
+        buffer[mark..mark + 3].copy_from_slice(&[tag, high, low]);
         buffer[mark + 3..mark + 3 + size].copy_from_slice(value);
         self.fill.mark = mark + 3 + size;
         Ok(())

@@ -7,7 +7,8 @@ ghost use Rattle.writing.specs.Kept.{kept_order};
 
 use terms::lawful::Terms;
 
-// Whatever keeps an order can be written; a register lists it with the shares that are left.
+// Whatever keeps an order can be written; a register lists it with the shares that are left. A trait, so
+// that whoever keeps orders in a form of its own hands them over as they are.
 pub trait KeepsOrder {
     ghost listed: { Self → Listed };
 

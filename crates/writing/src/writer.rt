@@ -14,35 +14,13 @@ use crate::kept::KeepsOrder;
 use crate::values::{codes, offset_bytes};
 use terms::lawful::Terms;
 
-// Writes an order from the mark on; the guard over the mark puts it back on every way out but the last.
-fn put_order(
-    buffer: &mut [u8],
-    fill: &mut Fill,
-    identifier: &[u8],
-    terms: &Terms,
-    left: u32,
-) -> Result<(), NoRoom>
-    ensures page { record { bytes = buffer.new; mark = fill.new.mark } ≡ with_order (record { bytes = buffer.old; mark = fill.old.mark }) (order_of identifier.now (terms_of terms.now) left) }
-    ensures outcome { result ≡ done_if (order_fits (length buffer.old - fill.old.mark) (order_of identifier.now (terms_of terms.now) left)) fill.old.mark }
-{
-    let mut begun = Begun::new(fill);
-    begun.put(buffer, 1, identifier)?;
-    begun.put(buffer, 2, &codes(terms))?;
-    begun.put(buffer, 3, &left.to_be_bytes())?;
-    begun.put(buffer, 4, &terms.limit.to_be_bytes())?;
-    if terms.offset != 0 {
-        begun.put(buffer, 5, &offset_bytes(terms))?;
-    }
-    begun.finish();
-    Ok(())
-}
-
 #[derive(Drop)]
 pub struct Writer<'a> {
     buffer: &'a mut [u8],
     fill: Fill,
 }
 
+// That the buffer is still the lender's own is said of each call, since a type speaks of one moment only.
 impl<'a> Writer<'a> {
     // Nothing is written yet; what the buffer held counts for nothing.
     pub fn new(buffer: &'a mut [u8]) -> Writer<'a>
@@ -71,10 +49,17 @@ impl<'a> Writer<'a> {
         ensures reads_back { (os : List Listed) → Holds (page_of self.old) os → Holds (page_of self.new) (os ++ whole_orders (room (page_of self.old)) (order_of identifier.now (terms_of terms.now) left ∷ [])) }
         ensures ticket { ListsATicket (terms_of terms.now) left }
     {
-        let mut fill = self.fill;
-        let outcome = put_order(self.buffer, &mut fill, identifier, terms, left);
-        self.fill = fill;
-        outcome
+        let buffer = &mut *self.buffer;
+        let mut begun = Begun::new(buffer, &mut self.fill);
+        begun.put(1, identifier)?;
+        begun.put(2, &codes(terms))?;
+        begun.put(3, &left.to_be_bytes())?;
+        begun.put(4, &terms.limit.to_be_bytes())?;
+        if terms.offset != 0 {
+            begun.put(5, &offset_bytes(terms))?;
+        }
+        begun.finish();
+        Ok(())
     }
 
     // Writes orders one after another, up to the first that does not fit, and tells how many bytes are written.

@@ -4,4 +4,4 @@ use Rattle.writing.proofs.examples.examples_as_told.Goals as goal
 
 pub returns : goal.returns
 unfolding order_fields
-returns c = record { told = refl; count = c.how_many.ensures }
+returns c = record { told = refl; count = refl }

@@ -1,0 +1,3 @@
+mod Dollars
+pub mod Judging
+mod Printable
