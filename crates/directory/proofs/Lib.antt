@@ -1,4 +1,3 @@
-mod Printable
 mod Distinct
 mod Changes
 mod Standing

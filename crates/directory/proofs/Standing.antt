@@ -1,22 +1,39 @@
--- A look along rows, and the list on both sides of a row. Cite `later_row` and `this_row` for the look,
+-- A look along rows, and the list on both sides of a row. Cite `row_none` and `row_stands` for the look,
 -- `rows_split` for the two sides, `standing_number` for the number of the identifier that stands there.
-use Rattle.std.proofs.Common.{◌≡◌, ℕ, suc, ◌+◌, ◌<◌, true, false, cond, List, ◌∷◌, ◌++◌, length, get_or, take, drop, Some, sym, ap, ◌∙◌, add-one, take-append-drop, drop-cons}
-use Rattle.std.proofs.lemmas.List.{get_or_default}
+use Rattle.std.proofs.Common.{◌≡◌, ℕ, Bool, not, suc, ◌+◌, ◌<◌, ◌≤◌, true, false, cond, List, [], ◌∷◌, ◌++◌, length, get_or, take, drop, refl, Some, None, sym, ap, ◌∙◌, arith, take-append-drop, drop-cons}
+use Rattle.std.specs.List.{position, position_or_len}
+use Rattle.std.proofs.lemmas.List.Quantifiers.{position-Some}
+use Rattle.std.proofs.lemmas.Bool.{ltb-false}
 use Rattle.std.specs.Str.{bytes_eq}
 use Rattle.directory.specs.declared.entries.Entry.{Entry}
 use Rattle.directory.specs.Entries.{entry_id, number_in, distinct, Stands}
-use Rattle.directory.proofs.Distinct.{bytes_same}
+use Rattle.directory.proofs.Distinct.{bytes_same, cond_none}
 use Rattle.directory.proofs.Changes.{pair_found}
 
-pub later_row : (es : List Entry) (i : ℕ) (x : Entry) (k : List ℕ) → i < length es → x ≡ get_or es i x → bytes_eq k (entry_id x) ≡ false → number_in es k ≡ number_in (drop i es) k → number_in es k ≡ number_in (drop (i + 1) es) k
-later_row es i x k lt is apart so_far =
-    rw add-one (so_far
-    ∙ ap (λ xs. number_in xs k) (drop-cons es i x lt)
-    ∙ ap (λ b. cond b (Some (get_or es i x).number) (number_in (drop (suc i) es) k)) (ap (λ y. bytes_eq k (entry_id y)) (sym is) ∙ apart))
+-- the first row that is the identifier's
+abbrev own : List ℕ → Entry → Bool
+own k e = bytes_eq k (entry_id e)
 
-pub this_row : (es : List Entry) (i : ℕ) (x : Entry) (k : List ℕ) → i < length es → x ≡ get_or es i x → bytes_eq k (entry_id x) ≡ true → Stands es k i
-this_row es i x k lt is same =
-    record { within = lt; same = λ d. ap entry_id (get_or_default es i d x lt ∙ sym is) ∙ sym (bytes_same k (entry_id x) same) }
+passed_over : (b : Bool) (n m : ℕ) → suc m ≤ cond (not b) (1 + n) 0 → (b ≡ false) × (m ≤ n)
+passed_over true n m h = absurd (omega arith)
+passed_over false n m h = (refl, omega arith)
+
+all_passed : (es : List Entry) (k : List ℕ) → length es ≤ position_or_len (own k) es → number_in es k ≡ None
+all_passed [] k h = refl
+all_passed (e ∷ es) k h =
+    let first = passed_over (own k e) (position_or_len (own k) es) (length es) h in
+    ap (λ b. cond b (Some e.number) (number_in es k)) first.0 ∙ all_passed es k first.1
+
+pub row_none : (es : List Entry) (k : List ℕ) → position (own k) es ≡ None → number_in es k ≡ None
+row_none es k h = all_passed es k (let past = (cond_none _ _ None h).0 in omega (arith, ltb-false))
+
+row_within : (es : List Entry) (k : List ℕ) (i : ℕ) → position (own k) es ≡ Some i → i < length es
+row_within [] k i h = cc
+row_within (e ∷ es) k i h = (position-Some (own k) (e ∷ es) i e h).0
+
+pub row_stands : (es : List Entry) (k : List ℕ) (i : ℕ) → position (own k) es ≡ Some i → Stands es k i
+row_stands es k i h =
+    record { within = row_within es k i h; same = λ d. sym (bytes_same k (entry_id (get_or es i d)) (position-Some (own k) es i d h).1) }
 
 pub rows_split : (es : List Entry) (i : ℕ) (d : Entry) → i < length es → es ≡ take i es ++ get_or es i d ∷ drop (suc i) es
 rows_split es i d lt = sym (take-append-drop i es) ∙ ap (λ xs. take i es ++ xs) (drop-cons es i d lt)

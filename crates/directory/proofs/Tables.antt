@@ -1,6 +1,6 @@
 -- A table after a pair is put at a free place, taken out, or every place freed. Cite `found_number` for a pair that stands there;
 -- `chained_put`, `apart_put`, `count_put`, `put_here` and `put_others`; `gapped`, `count_removed`, `removed_here` and `removed_others`; `no_entries` and `chained_empty`.
-use Rattle.std.proofs.Common.{◌≡◌, ℕ, zero, suc, ◌+◌, ◌<◌, ◌≤◌, true, false, List, [], ◌∷◌, ◌++◌, length, get_or, set, Some, None, sym, refl, ap, ◌∙◌, subst, ⊎_elim, arith, length-set, get_or-set_same}
+use Rattle.std.proofs.Common.{◌≡◌, ℕ, zero, suc, ◌+◌, ◌<◌, ◌≤◌, true, false, List, [], ◌∷◌, ◌++◌, length, get_or, replicate, set, Some, None, sym, refl, ap, ◌∙◌, subst, ⊎_elim, arith, length-set, get_or-set_same}
 use Rattle.std.proofs.lemmas.Bool.{both_ways, cases_eq}
 use Rattle.directory.specs.declared.entries.Entry.{Entry}
 use Rattle.directory.specs.Entries.{entry_id, number_in, distinct}
@@ -18,10 +18,9 @@ none_taken (Some e ∷ ps) h p = let z : ◌≡◌ {A = ℕ} 1 0 = ap (λ (es : 
 pub chained_empty : (ps : Places) → entries_in ps ≡ [] → Chained ps
 chained_empty ps h x = absurd (both_ways (taken ps x.pair) (none_taken ps h x.pair) x.pair_taken)
 
-pub no_entries : (ps : Places) → ((k : ℕ) → k < length ps → get_or ps k None ≡ None) → entries_in ps ≡ []
-no_entries [] h = refl
-no_entries (None ∷ ps) h = no_entries ps (λ k lt. h (suc k) (omega arith))
-no_entries (Some e ∷ ps) h = let z : ◌≡◌ {A = ℕ} 0 1 = let q = h 0 (omega arith) in cc in absurd (omega arith)
+pub no_entries : (n : ℕ) → entries_in (replicate n None) ≡ []
+no_entries zero = refl
+no_entries (suc n) = no_entries n
 
 pub chained_put : (ps : Places) (id : List ℕ) (p : ℕ) (e : Entry) → length ps ≡ 128 → Chained ps → FreeAt ps id p → entry_id e ≡ id → Chained (set ps p (Some e))
 chained_put ps id p e whole chained f own x =

@@ -1,10 +1,11 @@
 -- Pairs in a list: the number of an identifier is that of the first pair that has it.
-use Rattle.std.specs.Prelude.{◌≡◌, ℕ, ◌<◌, Bool, true, cond, not, ◌&&◌, List, [], ◌∷◌, length, take, is_some, Some, None, Option, slice_index_or}
+use Rattle.std.specs.Prelude.{◌≡◌, ℕ, ◌<◌, Bool, true, cond, not, ◌&&◌, List, [], ◌∷◌, length, is_some, Some, None, Option, slice_index_or}
 use Rattle.std.specs.Str.{bytes_eq}
+use Rattle.terms.specs.Naming.{identifier_bytes}
 use Rattle.directory.specs.declared.entries.Entry.{Entry}
 
 abbrev pub entry_id : Entry → List ℕ
-entry_id e = take e.len e.bytes
+entry_id e = identifier_bytes e.id
 
 abbrev pub number_in : List Entry → List ℕ → Option ℕ
 number_in [] k = None

@@ -2,6 +2,8 @@
 -- taken, at the first free place after it.
 use Rattle.std.specs.Prelude.{◌≡◌, ℕ, ◌+◌, ◌-◌, ◌*◌, ◌%◌, ◌<◌, ◌≤◌, Bool, true, false, List, [], ◌∷◌, length, get_or, is_some, Some, None, fold, Option, ◌≢◌, slice_index_or}
 use Rattle.directory.specs.declared.entries.Entry.{Entry}
+use Rattle.directory.specs.declared.spots.Spot.{Spot}
+use Rattle.directory.specs.declared.spots.Spot.TheVariants.{Taken, Free}
 use Rattle.directory.specs.Entries.{entry_id, number_in, distinct}
 
 abbrev pub Places : Type 0
@@ -54,6 +56,11 @@ pub record FreeAt (ps : Places) (id : List ℕ) (p : ℕ) : Type 0 where
   pub free : taken ps p ≡ false
   pub before : (q : ℕ) → q < 128 → steps (home_place id) q < steps (home_place id) p → taken ps q ≡ true
   pub absent : number_in (entries_in ps) id ≡ None
+
+-- a look, and what it comes to
+abbrev pub Looked : Places → List ℕ → Spot → Type 0
+Looked ps id (Taken p n) = FoundAt ps id p n
+Looked ps id (Free p) = FreeAt ps id p
 
 -- a table from which the pair at `gap` was taken out: only there may a chain be broken
 pub record Gapped (ps : Places) (gap : ℕ) : Type 0 where

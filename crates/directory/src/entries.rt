@@ -1,10 +1,8 @@
-ghost use Rattle.std.specs.Prelude.{◌≤◌};
+use terms::identifiers::Identifier;
 
-// A pair as the makes keep it: the identifier is the first `len` of the bytes.
+// A pair as the makes keep it.
 #[derive(Clone, Copy)]
 pub struct Entry {
-    pub(crate) bytes: [u8; 20],
-    pub(crate) len: usize,
+    pub(crate) id: Identifier,
     pub(crate) number: u32,
-    ghost short: { len ≤ 20 },
 }

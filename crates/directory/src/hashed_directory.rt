@@ -1,5 +1,5 @@
-ghost use Rattle.std.specs.Prelude.{◌≡◌, [], IfOk, vec_len, MatchResult};
-ghost use Rattle.directory.specs.Table.{entries_in, FoundAt, FreeAt};
+ghost use Rattle.std.specs.Prelude.{◌≡◌, [], IfOk, vec_len};
+ghost use Rattle.directory.specs.Table.{entries_in, Looked};
 ghost use Rattle.directory.specs.Hashed.{hashed_number, hashed_count};
 ghost use Rattle.directory.specs.Pairs.{Emptied};
 
@@ -8,18 +8,9 @@ use crate::entries::Entry;
 use crate::identifiers::lawful_identifier;
 use crate::matching::{entry_of, is_of};
 use crate::probing::{close_gap, home_place};
+use crate::spots::Spot;
 use crate::table::{HashedDirectory, PLACES};
 use std::alloc::{AllocError, Global};
-
-// Frees every place.
-fn free_all(places: &mut Vec<Option<Entry>>)
-    requires { vec_len places.old ≡ 128 }
-    ensures { (vec_len places.new ≡ 128) × (entries_in places.new.items ≡ []) }
-{
-    for place in 0..PLACES {
-        places[place] = None;
-    }
-}
 
 impl HashedDirectory {
     // A directory with no pair. Fails only for want of memory.
@@ -30,20 +21,22 @@ impl HashedDirectory {
         Ok(HashedDirectory { places, held: 0 })
     }
 
-    // Looks from the identifier's home on: the place and the number of its pair, or the free place where the look ends.
-    fn look(&self, id: &[u8]) -> Result<(usize, u32), usize>
-        ensures { MatchResult result
-            (λ found. FoundAt self.now.places.items id.now found.0 found.1)
-            (λ p. FreeAt self.now.places.items id.now p) }
+    // Looks from the identifier's home on, round the ring of places. A place is told by its steps from home, as the chains are
+    // (`steps`), which two ranges one after the other would not show.
+    fn look(&self, id: &[u8]) -> Spot
+        ensures { Looked self.now.places.items id.now result }
     {
         let home = home_place(id);
         for step in 0..PLACES {
             let place = (home + step) % PLACES;
             let Some(entry) = self.places[place] else {
-                return Err(place);
+                return Spot::Free { place };
             };
             if is_of(&entry, id) {
-                return Ok((place, entry.number));
+                return Spot::Taken {
+                    place,
+                    number: entry.number,
+                };
             }
         }
         // at most 64 of the 128 places are taken
@@ -60,16 +53,17 @@ impl Directory for HashedDirectory {
 
     fn find(&self, id: &[u8]) -> Option<u32> {
         match self.look(id) {
-            Ok((_, number)) => Some(number),
-            Err(_) => None,
+            Spot::Taken { number, .. } => Some(number),
+            Spot::Free { .. } => None,
         }
     }
 
+    // The tests are the trait's, in its order; what is asked for each is the make's own.
     fn put(&mut self, id: &[u8], entry: u32) -> Result<(), PutRefusal> {
         if !lawful_identifier(id) {
             return Err(PutRefusal::Unlawful);
         }
-        let Err(place) = self.look(id) else {
+        let Spot::Free { place } = self.look(id) else {
             return Err(PutRefusal::Held);
         };
         if self.held >= CAPACITY {
@@ -81,7 +75,7 @@ impl Directory for HashedDirectory {
     }
 
     fn remove(&mut self, id: &[u8]) -> Option<u32> {
-        let Ok((place, number)) = self.look(id) else {
+        let Spot::Taken { place, number } = self.look(id) else {
             return None;
         };
         self.places[place] = None;
@@ -91,7 +85,7 @@ impl Directory for HashedDirectory {
     }
 
     fn clear(&mut self) {
-        free_all(&mut self.places);
+        self.places.fill(None);
         self.held = 0;
     }
 }

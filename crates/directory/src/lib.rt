@@ -9,4 +9,5 @@ pub mod matching;
 pub mod probing;
 pub mod row_directory;
 pub mod rows;
+mod spots;
 pub mod table;

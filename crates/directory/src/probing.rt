@@ -10,18 +10,18 @@ pub fn home_place(id: &[u8]) -> usize
     ensures value { result ≡ home_place_of id.now }
     ensures within { result < 128 }
 {
-    let mut hash: usize = 0;
-    for byte in id {
-        hash = (hash * 31 + usize::from(*byte)) % 65521;
-    }
-    hash % PLACES
+    let hash = id.iter().fold(
+        0,
+        |hash: u16, byte| ((u32::from(hash) * 31 + u32::from(*byte)) % 65521) as u16,
+    );
+    usize::from(hash) % PLACES
 }
 
 fn home_of(entry: &Entry) -> usize
     ensures value { result ≡ home_place_of (entry_id entry.now) }
     ensures within { result < 128 }
 {
-    home_place(&entry.bytes[0..entry.len])
+    home_place(entry.id.as_bytes())
 }
 
 // How many places on from one place another lies, going round.
@@ -38,6 +38,7 @@ pub(crate) fn close_gap(places: &mut Vec<Option<Entry>>, gap: usize)
     ensures { Closed places.old.items places.new.items }
 {
     let mut hole = gap;
+    // A place is told by its steps on from the gap, which two ranges one after the other would not show.
     for step in 1..PLACES {
         let place = (gap + step) % PLACES;
         let Some(entry) = places[place] else {

@@ -1,5 +1,6 @@
-ghost use Rattle.std.specs.Prelude.{◌≡◌, IfOk, Some, None, MatchOption};
-ghost use Rattle.directory.specs.Entries.{Stands};
+ghost use Rattle.std.specs.Prelude.{◌≡◌, IfOk, position};
+ghost use Rattle.std.specs.Str.{bytes_eq};
+ghost use Rattle.directory.specs.Entries.{entry_id};
 ghost use Rattle.directory.specs.Rows.{row_number, row_count};
 ghost use Rattle.directory.specs.Pairs.{Emptied};
 
@@ -20,17 +21,9 @@ impl RowDirectory {
 
     // The row of an identifier, if there is one.
     fn row_of(&self, id: &[u8]) -> Option<usize>
-        ensures { MatchOption result
-            (row_number self.now id.now ≡ None)
-            (λ i. Stands self.now.rows.items id.now i) }
+        ensures { result ≡ position (λ e. bytes_eq id.now (entry_id e)) self.now.rows.items }
     {
-        let n = self.rows.len();
-        for i in 0..n {
-            if is_of(&self.rows[i], id) {
-                return Some(i);
-            }
-        }
-        None
+        self.rows.iter().position(|entry| is_of(entry, id))
     }
 }
 
@@ -42,10 +35,8 @@ impl Directory for RowDirectory {
     ghost few = { λ d. d.few };
 
     fn find(&self, id: &[u8]) -> Option<u32> {
-        match self.row_of(id) {
-            Some(i) => Some(self.rows[i].number),
-            None => None,
-        }
+        let i = self.row_of(id)?;
+        Some(self.rows[i].number)
     }
 
     fn put(&mut self, id: &[u8], entry: u32) -> Result<(), PutRefusal> {
@@ -63,13 +54,8 @@ impl Directory for RowDirectory {
     }
 
     fn remove(&mut self, id: &[u8]) -> Option<u32> {
-        match self.row_of(id) {
-            Some(i) => {
-                let entry = self.rows.remove(i);
-                Some(entry.number)
-            }
-            None => None,
-        }
+        let i = self.row_of(id)?;
+        Some(self.rows.remove(i).number)
     }
 
     fn clear(&mut self) {

@@ -7,7 +7,8 @@ use crate::entries::Entry;
 pub(crate) const PLACES: usize = 128;
 
 // A directory in a hashed table: open addressing by linear probing, with backward shift when a pair is removed.
-// The table has twice the places that can be taken, and is had at making.
+// The table has twice the places that can be taken, and is had at making. Not a map,
+// since no call may allocate.
 #[derive(Drop)]
 pub struct HashedDirectory {
     pub(crate) places: Vec<Option<Entry>>,

@@ -1,6 +1,7 @@
 // Runs long schedules over both makes of the directory and of the tape, and compares their answers call by call.
 #![tactic(auto)]
 
+mod agreement;
 mod names;
 mod random;
 mod schedule;

@@ -3,23 +3,19 @@
 use directory::probing::home_place;
 use std::alloc::{AllocError, Global};
 
-fn numbered(heap: Global, front: &[u8], n: u32) -> Result<Vec<u8>, AllocError> {
-    let mut name = front.to_vec(heap)?;
-    name.push(b'0' + (n / 100 % 10) as u8)?;
-    name.push(b'0' + (n / 10 % 10) as u8)?;
-    name.push(b'0' + (n % 10) as u8)?;
-    Ok(name)
+fn numbered(heap: Global, front: &str, n: u32) -> Result<Vec<u8>, AllocError> {
+    Ok(format!(in heap; "{front}{n:03}")?.into_bytes())
 }
 
 pub fn pool(heap: Global) -> Result<Vec<Vec<u8>>, AllocError> {
     let mut names = Vec::new(heap);
     for n in 0..20u32 {
-        names.push(numbered(heap, b"A", n)?)?;
-        names.push(numbered(heap, b"TWELVE-BYTES", n)?)?;
-        names.push(numbered(heap, b"TWENTY-BYTES-LONG", n)?)?;
+        names.push(numbered(heap, "A", n)?)?;
+        names.push(numbered(heap, "TWELVE-BYTES", n)?)?;
+        names.push(numbered(heap, "TWENTY-BYTES-LONG", n)?)?;
     }
     for n in 0..999u32 {
-        let name = numbered(heap, b"C", n)?;
+        let name = numbered(heap, "C", n)?;
         if home_place(&name) == 126 {
             names.push(name)?;
         }
@@ -28,7 +24,7 @@ pub fn pool(heap: Global) -> Result<Vec<Vec<u8>>, AllocError> {
     names.push(b"A BLANK".to_vec(heap)?)?;
     names.push(b"TWENTY-ONE-BYTES-LONG".to_vec(heap)?)?;
     for n in 0..40u32 {
-        names.push(numbered(heap, b"Z", n)?)?;
+        names.push(numbered(heap, "Z", n)?)?;
     }
     Ok(names)
 }

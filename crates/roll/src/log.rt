@@ -1,12 +1,11 @@
-ghost use Rattle.std.specs.Prelude.{◌≡◌, ◌+◌, [], ◌∷◌, ◌++◌, length, MatchResult, slice_set};
-ghost use Rattle.roll.specs.Rolls.{records, room_left, at_place};
+ghost use Rattle.std.specs.Prelude.{◌≡◌, ◌+◌, ◌≤◌, [], ◌∷◌, ◌++◌, length, MatchResult, slice_set};
 
 // A roll keeps records in the order in which they came, in a slice that its maker lends it.
-// It has no ghost field, so that a struct may own a roll by value: each method looks where it would need one.
 #[derive(Drop)]
 pub struct Roll<'a, T> {
     room: &'a mut [T],
     used: usize,
+    ghost within: { used ≤ length room.now },
 }
 
 // A record that found no free place.
@@ -16,6 +15,8 @@ pub struct Full<T> {
 }
 
 impl<'a, T: Copy> Roll<'a, T> {
+    ghost use Rattle.roll.specs.Rolls.{records, room_left, at_place};
+
     // An empty roll; what the slice held counts for nothing.
     pub fn new(room: &'a mut [T]) -> Roll<'a, T>
         ensures empty { records result ≡ [] }
@@ -29,18 +30,14 @@ impl<'a, T: Copy> Roll<'a, T> {
     pub fn len(&self) -> usize
         ensures { result ≡ length (records self.now) }
     {
-        if self.used <= self.room.len() {
-            self.used
-        } else {
-            self.room.len()
-        }
+        self.as_slice().len()
     }
 
     // How many more it has room for.
     pub fn free(&self) -> usize
         ensures { result ≡ room_left self.now }
     {
-        self.room.len() - self.len()
+        self.room.len() - self.used
     }
 
     // Adds a record at the end. A full roll hands it back and stays as it is.
@@ -52,7 +49,7 @@ impl<'a, T: Copy> Roll<'a, T> {
             (λ _. (self.new.room.now ≡ slice_set self.old.room.now self.old.used item) × (self.new.used ≡ self.old.used + 1))
             (λ _. self.new ≡ self.old) }
     {
-        if self.used >= self.room.len() {
+        if self.used == self.room.len() {
             return Err(Full { item });
         }
         self.room[self.used] = item;
@@ -60,14 +57,17 @@ impl<'a, T: Copy> Roll<'a, T> {
         Ok(())
     }
 
+    // The records, oldest first.
+    pub fn as_slice(&self) -> &[T]
+        ensures { result.now ≡ records self.now }
+    {
+        &self.room[..self.used]
+    }
+
     // The record at a place; the oldest stands at place 1.
     pub fn get(&self, place: usize) -> Option<T>
         ensures { result ≡ at_place (records self.now) place }
     {
-        if place == 0 || place > self.len() {
-            return None;
-        }
-        let room: &[T] = &*self.room;
-        Some(room[place - 1])
+        self.as_slice().get(place.checked_sub(1)?).copied()
     }
 }

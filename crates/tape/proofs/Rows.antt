@@ -52,19 +52,17 @@ lines_more xs ys n l h e =
     ∙ ap (λ ls. ls ++ line_at ys (n * 43) ∷ []) (lines_same n ys xs h)
     ∙ ap (λ x. lines_in xs n ++ x ∷ []) e
 
-pub lines_place : (xs : List ℕ) (n place : ℕ) → 0 < place → place ≤ n → Some (line_at xs ((place - 1) * 43)) ≡ at_place (lines_in xs n) place
-lines_place xs n zero pos le = absurd (not-suc-le-zero pos)
-lines_place xs n (suc i) pos le =
+pub lines_place : (xs : List ℕ) (n place i : ℕ) → place ≡ suc i → i < n → Some (line_at xs (i * 43)) ≡ at_place (lines_in xs n) place
+lines_place xs n place i is lt =
     let len = length-map-range_with_len (λ j. line_at xs (j * 43)) 0 n in
-    let back : suc i - 1 ≡ i = omega arith in
-    ap (λ k. Some (line_at xs (k * 43))) back
-    ∙ sym (slice_get-get_or (lines_in xs n) i blank (omega arith) ∙ ap Some (get_or-map-range_with_len (λ j. line_at xs (j * 43)) 0 n i i blank (omega arith) (omega arith)))
+    ap Some (sym (get_or-map-range_with_len (λ j. line_at xs (j * 43)) 0 n i i blank lt (omega arith)))
+    ∙ sym (slice_get-get_or (lines_in xs n) i blank (omega arith))
+    ∙ ap (at_place (lines_in xs n)) (sym is)
 
-pub lines_past : (xs : List ℕ) (n place : ℕ) → n < place → at_place (lines_in xs n) place ≡ None
-lines_past xs n zero lt = refl
-lines_past xs n (suc i) lt =
+pub lines_past : (xs : List ℕ) (n place i : ℕ) → place ≡ suc i → n ≤ i → None ≡ at_place (lines_in xs n) place
+lines_past xs n place i is le =
     let len = length-map-range_with_len (λ j. line_at xs (j * 43)) 0 n in
-    slice_get_past (lines_in xs n) i (omega arith)
+    sym (slice_get_past (lines_in xs n) i (omega arith)) ∙ ap (at_place (lines_in xs n)) (sym is)
 
 -- a row of lines, read by place
 drop_none : (n : ℕ) → drop {A = ℕ} n [] ≡ []
@@ -108,35 +106,28 @@ module _ (xs ys : List ℕ) (n : ℕ) (l : Line) (room : n < length xs / 43) (is
   same_length : length ys ≡ length xs
   same_length = ap length is ∙ length-paste xs (n * 43) (line_bytes l) 43 fits (omega (arith, length_line l))
 
-  count_before : min n (length xs / 43) ≡ n
-  count_before = omega arith
+  pub tape_within : (n + 1) * 43 ≤ length ys
+  tape_within = omega (arith, fits, same_length)
 
-  count_after : min (n + 1) (length ys / 43) ≡ n + 1
-  count_after = omega (arith, same_length)
-
-  pub tape_lines_more : InWidth l → lines_in ys (min (n + 1) (length ys / 43)) ≡ lines_in xs (min n (length xs / 43)) ++ l ∷ []
+  pub tape_lines_more : InWidth l → lines_in ys (n + 1) ≡ lines_in xs n ++ l ∷ []
   tape_lines_more w =
-      ap (lines_in ys) count_after
-      ∙ lines_more xs ys n l
+      lines_more xs ys n l
       (λ k lt. ap (λ zs. get_or zs k 0) is ∙ pasted_before xs (n * 43) l (omega (arith, fits)) k lt)
       (ap (λ zs. line_at zs (n * 43)) is ∙ pasted_here xs (n * 43) l fits w)
-      ∙ ap (λ m. lines_in xs m ++ l ∷ []) (sym count_before)
 
   pub tape_free_less : length ys / 43 - (n + 1) + 1 ≡ length xs / 43 - n
   tape_free_less = omega (arith, same_length)
 
-  pub tape_row_more : InWidth l → take (min n (length xs / 43) * 43) xs ≡ tape_bytes (lines_in xs (min n (length xs / 43))) → take (min (n + 1) (length ys / 43) * 43) ys ≡ tape_bytes (lines_in ys (min (n + 1) (length ys / 43)))
+  pub tape_row_more : InWidth l → take (n * 43) xs ≡ tape_bytes (lines_in xs n) → take ((n + 1) * 43) ys ≡ tape_bytes (lines_in ys (n + 1))
   tape_row_more w spelled =
       let whole : (n + 1) * 43 ≡ n * 43 + 43 = omega arith in
       let own : take 43 (line_bytes l) ≡ line_bytes l = take_all 43 (line_bytes l) (omega (arith, length_line l)) in
-      ap (λ m. take (m * 43) ys) count_after
-      ∙ ap (λ m. take m ys) whole
+      ap (λ m. take m ys) whole
       ∙ ap (take (n * 43 + 43)) is
       ∙ take-paste xs (n * 43) (line_bytes l) 43 (omega (arith, fits)) (omega (arith, length_line l))
       ∙ ap (λ zs. take (n * 43) xs ++ zs) own
-      ∙ ap (λ m. take (m * 43) xs ++ line_bytes l) (sym count_before)
       ∙ ap (λ zs. zs ++ line_bytes l) spelled
-      ∙ sym (tape_push (lines_in xs (min n (length xs / 43))) l)
+      ∙ sym (tape_push (lines_in xs n) l)
       ∙ ap tape_bytes (sym (tape_lines_more w))
 
 -- one more of some lines, written over bytes one after another

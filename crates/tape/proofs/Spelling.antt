@@ -1,14 +1,15 @@
 -- What is written of one line is what is read of it. The bytes of a line are written out, so every place in them computes;
 -- `number_same` carries a number from one list to another whose bytes agree.
 -- Cite `line_same` for bytes that agree, `line_spelled` and `read_spelled` for a line's own bytes.
-use Rattle.std.proofs.Common.{◌≡◌, ℕ, zero, suc, ◌+◌, ◌*◌, ◌/◌, ◌%◌, ◌^◌, ◌<◌, ◌≤◌, Bool, true, false, cond, List, length, get_or, Some, None, Decides, sym, refl, ap, ◌∙◌, add-zero, add_assoc, arith, rules}
-use native.Mathlib.Nat.{div-div-eq-div-mul}
+use Rattle.std.proofs.Common.{◌≡◌, ℕ, zero, suc, ◌+◌, ◌*◌, ◌%◌, ◌^◌, ◌<◌, ◌≤◌, Bool, true, false, cond, List, length, get_or, take, drop, Some, None, sym, refl, ap, ◌∙◌, add-zero, add_assoc, zero-add, arith, w32, w64, get_or-take, get_or-drop}
+use Rattle.std.specs.Int.{from_be_bytes}
 use Rattle.std.specs.Str.{bytes_eq}
+use Rattle.std.proofs.lemmas.Nat.{from_be_bytes-to_be_bytes_4, from_be_bytes-to_be_bytes_8}
 use Rattle.std.proofs.lemmas.Slice.Eq.{bytes_eq-Decides}
 use Rattle.tape.specs.declared.line.Line.{Line}
 use Rattle.tape.specs.declared.line.Mark.{Mark}
 use Rattle.tape.specs.declared.line.Mark.TheVariants.{Nothing, BidDepleted, OfferDepleted}
-use Rattle.tape.specs.Layout.{mark_code, mark_of, line_bytes, number_at, line_at, line_read, InWidth}
+use Rattle.tape.specs.Layout.{mark_code, mark_of, bytes_of, line_bytes, number_at, line_at, line_read, InWidth}
 
 pub length_line : (l : Line) → length (line_bytes l) ≡ 43
 unfolding line_bytes
@@ -23,16 +24,28 @@ number_same xs ys a b (suc (suc n)) h =
     let here = h (suc n) (omega arith) in
     ap (λ i. i * 256 + get_or xs (a + suc n) 0) front ∙ ap (λ i. number_at ys b (suc n) * 256 + i) here
 
+-- a number read of the bytes that stand there
+read_there : (xs ys : List ℕ) (at n : ℕ) → ys ≡ take n (drop at xs) → number_at ys 0 n ≡ number_at xs at n
+read_there xs ys at n is =
+    number_same ys xs 0 at n (λ k lt.
+    ap (λ zs. get_or zs (0 + k) 0) is ∙ get_or-take n (drop at xs) (0 + k) 0 (omega arith) ∙ get_or-drop at xs (0 + k) 0 ∙ ap (λ i. get_or xs (at + i) 0) (zero-add k))
+
+pub eight_read : (xs ys : List ℕ) (at : ℕ) → ys ≡ take 8 (drop at xs) → from_be_bytes w64 ys ≡ number_at xs at 8
+eight_read xs ys at is = let horner : from_be_bytes w64 ys ≡ number_at ys 0 8 = omega arith in horner ∙ read_there xs ys at 8 is
+
+pub four_read : (xs ys : List ℕ) (at : ℕ) → ys ≡ take 4 (drop at xs) → from_be_bytes w32 ys ≡ number_at xs at 4
+four_read xs ys at is = let horner : from_be_bytes w32 ys ≡ number_at ys 0 4 = omega arith in horner ∙ read_there xs ys at 4 is
+
 -- the value that begins at a place p of the line
 value_same : (xs ys : List ℕ) (a b p n : ℕ) → p + n ≤ 43 → ((k : ℕ) → k < 43 → get_or xs (a + k) 0 ≡ get_or ys (b + k) 0) → number_at xs (a + p) n ≡ number_at ys (b + p) n
 value_same xs ys a b p n fits h =
     number_same xs ys (a + p) (b + p) n (λ k lt.
     ap (λ i. get_or xs i 0) (add_assoc a p k) ∙ h (p + k) (omega arith) ∙ ap (λ i. get_or ys i 0) (sym (add_assoc b p k)))
 
-abbrev made : ℕ → ℕ → ℕ → ℕ → ℕ → Mark → Line
+abbrev pub made : ℕ → ℕ → ℕ → ℕ → ℕ → Mark → Line
 made t p k s c m = record { time = t; partner = p; taker = k; shares = s; price = c; mark = m }
 
-line_eq : (t t' p p' k k' s s' c c' : ℕ) (m m' : Mark) → t ≡ t' → p ≡ p' → k ≡ k' → s ≡ s' → c ≡ c' → m ≡ m' → made t p k s c m ≡ made t' p' k' s' c' m'
+pub line_eq : (t t' p p' k k' s s' c c' : ℕ) (m m' : Mark) → t ≡ t' → p ≡ p' → k ≡ k' → s ≡ s' → c ≡ c' → m ≡ m' → made t p k s c m ≡ made t' p' k' s' c' m'
 line_eq t t' p p' k k' s s' c c' m m' e1 e2 e3 e4 e5 e6 = cc
 
 pub line_same : (xs ys : List ℕ) (a b : ℕ) → ((k : ℕ) → k < 43 → get_or xs (a + k) 0 ≡ get_or ys (b + k) 0) → line_at xs a ≡ line_at ys b
@@ -46,33 +59,12 @@ line_same xs ys a b h =
     (value_same xs ys a b 35 4 (omega arith) h)
     (ap mark_of (value_same xs ys a b 42 1 (omega arith) h))
 
--- a byte more below the bytes of a number above
-byte_more : (x : ℕ) → x / 256 * 256 + x % 256 ≡ x
-byte_more x = omega arith
+-- a number read of its own bytes
+four_bytes : (x : ℕ) → x < 2 ^ 32 → number_at (bytes_of 4 x) 0 4 ≡ x
+four_bytes x lt = omega (arith, from_be_bytes-to_be_bytes_4 x lt)
 
-next_byte : (x m n : ℕ) → x / m / 256 ≡ x / n → x / n * 256 + x / m % 256 ≡ x / m
-next_byte x m n e = ap (λ q. q * 256 + x / m % 256) (sym e) ∙ byte_more (x / m)
-
-three_below : (x q : ℕ) → q ≡ x / 16777216 → ((q * 256 + x / 65536 % 256) * 256 + x / 256 % 256) * 256 + x % 256 ≡ x
-three_below x q e =
-    ap (λ n. ((n * 256 + x / 65536 % 256) * 256 + x / 256 % 256) * 256 + x % 256) e
-    ∙ ap (λ n. (n * 256 + x / 256 % 256) * 256 + x % 256) (next_byte x 65536 16777216 (div-div-eq-div-mul x 65536 256))
-    ∙ ap (λ n. n * 256 + x % 256) (next_byte x 256 65536 (div-div-eq-div-mul x 256 256))
-    ∙ byte_more x
-
-four_bytes : (x : ℕ) → x < 2 ^ 32 → ((x / 16777216 % 256 * 256 + x / 65536 % 256) * 256 + x / 256 % 256) * 256 + x % 256 ≡ x
-four_bytes x lt = three_below x (x / 16777216 % 256) (omega arith)
-
-eight_bytes : (x : ℕ) → x < 2 ^ 64 → ((((((x / 72057594037927936 % 256 * 256 + x / 281474976710656 % 256) * 256 + x / 1099511627776 % 256) * 256 + x / 4294967296 % 256) * 256 + x / 16777216 % 256) * 256 + x / 65536 % 256) * 256 + x / 256 % 256) * 256 + x % 256 ≡ x
-eight_bytes x lt =
-    let top : x / 72057594037927936 % 256 ≡ x / 72057594037927936 = omega arith in
-    let upper : ((((x / 72057594037927936 % 256 * 256 + x / 281474976710656 % 256) * 256 + x / 1099511627776 % 256) * 256 + x / 4294967296 % 256) * 256 + x / 16777216 % 256) ≡ x / 16777216 =
-    ap (λ n. (((n * 256 + x / 281474976710656 % 256) * 256 + x / 1099511627776 % 256) * 256 + x / 4294967296 % 256) * 256 + x / 16777216 % 256) top
-    ∙ ap (λ n. ((n * 256 + x / 1099511627776 % 256) * 256 + x / 4294967296 % 256) * 256 + x / 16777216 % 256) (next_byte x 281474976710656 72057594037927936 (div-div-eq-div-mul x 281474976710656 256))
-    ∙ ap (λ n. (n * 256 + x / 4294967296 % 256) * 256 + x / 16777216 % 256) (next_byte x 1099511627776 281474976710656 (div-div-eq-div-mul x 1099511627776 256))
-    ∙ ap (λ n. n * 256 + x / 16777216 % 256) (next_byte x 4294967296 1099511627776 (div-div-eq-div-mul x 4294967296 256))
-    ∙ next_byte x 16777216 4294967296 (div-div-eq-div-mul x 16777216 256) in
-    three_below x _ upper
+eight_bytes : (x : ℕ) → x < 2 ^ 64 → number_at (bytes_of 8 x) 0 8 ≡ x
+eight_bytes x lt = omega (arith, from_be_bytes-to_be_bytes_8 x lt)
 
 mark_back : (m : Mark) → mark_of (mark_code m % 256) ≡ m
 mark_back Nothing = refl
@@ -98,10 +90,3 @@ unread_by false xs l short e = refl
 
 pub unread : (xs : List ℕ) → (length xs ≡ 43 → ⊥) → line_read xs ≡ None
 unread xs short = unread_by (bytes_eq xs (line_bytes (line_at xs 0))) xs (line_at xs 0) short refl
-
--- the bytes are compared with those of the line that they seem to say
-pub read_told : (xs ys : List ℕ) (l : Line) (b : Bool) → l ≡ line_at xs 0 → ys ≡ line_bytes l → Decides b (xs ≡ ys) → cond b (Some l) None ≡ line_read xs
-read_told xs ys l b is spelled d =
-    let same : b ≡ bytes_eq xs ys = search (rules, bytes_eq-Decides) in
-    ap (λ t. cond t (Some l) None) (same ∙ ap (bytes_eq xs) (spelled ∙ ap line_bytes is))
-    ∙ ap (λ m. cond (bytes_eq xs (line_bytes (line_at xs 0))) (Some m) None) is

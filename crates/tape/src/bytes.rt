@@ -1,7 +1,6 @@
-ghost use Rattle.std.specs.Prelude.{◌≡◌, ◌+◌, ◌*◌, ◌/◌, min, [], ◌∷◌, ◌++◌, length, take, drop, MatchResult};
+ghost use Rattle.std.specs.Prelude.{◌≡◌, ◌+◌, ◌*◌, ◌/◌, ◌≤◌, min, [], ◌∷◌, ◌++◌, length, take, drop, MatchResult};
 ghost use Rattle.std.proofs.Math.Seq.{paste};
-ghost use Rattle.tape.specs.Layout.{line_bytes, tape_bytes};
-ghost use Rattle.tape.specs.Bytes.{byte_count, byte_lines, byte_free, byte_row, SpelledOut};
+ghost use Rattle.tape.specs.Layout.{line_bytes, lines_in, tape_bytes};
 
 use crate::layout::{LINE_BYTES, line_at, put_line};
 use crate::line::Line;
@@ -12,44 +11,40 @@ use crate::tapes::{Full, Tape};
 pub struct ByteTape<'a> {
     bytes: &'a mut [u8],
     used: usize,
+    ghost within: { used * 43 ≤ length bytes.now },
+    ghost spelled_out: { take (used * 43) bytes.now ≡ tape_bytes (lines_in bytes.now used) },
 }
 
 impl<'a> ByteTape<'a> {
+    ghost use Rattle.tape.specs.Bytes.{byte_lines, byte_free, byte_row};
+
     // An empty tape; what the bytes held counts for nothing.
     pub fn new(bytes: &'a mut [u8]) -> ByteTape<'a>
         ensures empty { byte_lines result ≡ [] }
         ensures free { byte_free result ≡ length bytes.old / 43 }
-        ensures spelled_out { SpelledOut result }
         ensures lent { (result.bytes.ghost_name ≡ bytes.entry.ghost_name) × (result.bytes.now ≡ bytes.old) × (result.used ≡ 0) }
     {
         ByteTape { bytes, used: 0 }
     }
 
-    // How many lines stand on the tape.
-    fn count(&self) -> usize
-        ensures { result ≡ byte_count self.now }
-    {
-        let whole = self.bytes.len() / LINE_BYTES;
-        if self.used <= whole { self.used } else { whole }
-    }
-
     // The bytes of the lines so far, to be kept or sent; `line_in` reads them back.
     pub fn written(&self) -> &[u8]
         ensures bytes { result.now ≡ byte_row self.now }
-        ensures lines { SpelledOut self.now → result.now ≡ tape_bytes (byte_lines self.now) }
+        ensures lines { result.now ≡ tape_bytes (byte_lines self.now) }
     {
-        let end = self.count() * LINE_BYTES;
-        &self.bytes[0..end]
+        &self.bytes[..self.used * LINE_BYTES]
     }
 }
 
 impl<'a> Tape for ByteTape<'a> {
+    ghost use Rattle.tape.specs.Bytes.{byte_lines, byte_free};
+
     ghost lines = { λ s. byte_lines s };
 
     ghost free = { λ s. byte_free s };
 
     fn free_lines(&self) -> usize {
-        self.bytes.len() / LINE_BYTES - self.count()
+        self.bytes.len() / LINE_BYTES - self.used
     }
 
     fn write(&mut self, line: Line) -> Result<(), Full>
@@ -59,9 +54,8 @@ impl<'a> Tape for ByteTape<'a> {
         ensures lent { (self.new.bytes.ghost_name ≡ self.old.bytes.ghost_name) × MatchResult result
             (λ _. (self.new.bytes.now ≡ paste self.old.bytes.now (self.old.used * 43) (line_bytes line) 43) × (self.new.used ≡ self.old.used + 1))
             (λ _. self.new ≡ self.old) }
-        ensures spelled_out { SpelledOut self.old → SpelledOut self.new }
     {
-        if self.used >= self.bytes.len() / LINE_BYTES {
+        if self.free_lines() == 0 {
             return Err(Full);
         }
         let at = self.used * LINE_BYTES;
@@ -71,10 +65,11 @@ impl<'a> Tape for ByteTape<'a> {
     }
 
     fn read(&self, place: usize) -> Option<Line> {
-        if place == 0 || place > self.count() {
+        let i = place.checked_sub(1)?;
+        if i >= self.used {
             return None;
         }
-        Some(line_at(self.bytes, (place - 1) * LINE_BYTES))
+        Some(line_at(self.bytes, i * LINE_BYTES))
     }
 }
 
@@ -83,15 +78,10 @@ pub fn write_lines(bytes: &mut [u8], lines: &[Line]) -> usize
     ensures count { result ≡ min (length lines.now) (length bytes.old / 43) }
     ensures bytes { bytes.new ≡ tape_bytes (take result lines.now) ++ drop (result * 43) bytes.old }
 {
-    let whole = bytes.len() / LINE_BYTES;
-    let count = if lines.len() < whole {
-        lines.len()
-    } else {
-        whole
-    };
+    let count = lines.len().min(bytes.len() / LINE_BYTES);
     let mut tape = ByteTape::new(bytes);
-    for i in 0..count {
-        let _ = tape.write(lines[i]);
+    for line in &lines[..count] {
+        let _ = tape.write(*line);
     }
     count
 }

@@ -1,34 +1,14 @@
 // A line in bytes: six fields, each a tag, two bytes of length and the value, most significant byte first.
-ghost use Rattle.std.specs.Prelude.{◌≡◌, ◌+◌, ◌<◌, ◌≤◌, List, ◌∷◌, length};
+ghost use Rattle.std.specs.Prelude.{◌≡◌, ◌+◌, ◌<◌, ◌≤◌, List, ◌∷◌, length, take, drop};
 ghost use Rattle.std.proofs.Math.Seq.{paste};
 ghost use Rattle.std.specs.List.{AllByRecursion};
 ghost use Rattle.roll.specs.Rolls.{at_place};
 ghost use Rattle.tape.specs.declared.line.Line.{Line as TradeLine};
-ghost use Rattle.tape.specs.Layout.{mark_code, mark_of, line_bytes as line_bytes_of, tape_bytes, number_at, line_at, line_read, line_in as line_in_of, InWidth};
+ghost use Rattle.tape.specs.Layout.{line_bytes as line_bytes_of, tape_bytes, number_at, line_at, line_read, line_in as line_in_of, InWidth};
 
 use crate::line::{Line, Mark};
 
 pub const LINE_BYTES: usize = 43;
-
-pub fn mark_code(mark: Mark) -> u8
-    ensures { result ≡ mark_code mark }
-{
-    match mark {
-        Mark::Nothing => 0,
-        Mark::BidDepleted => 1,
-        Mark::OfferDepleted => 2,
-    }
-}
-
-fn mark_of(code: u8) -> Mark
-    ensures { result ≡ mark_of code }
-{
-    match code {
-        1 => Mark::BidDepleted,
-        2 => Mark::OfferDepleted,
-        _ => Mark::Nothing,
-    }
-}
 
 // A field: its tag, two bytes of length, and the value.
 fn put_field(bytes: &mut [u8], at: usize, tag: u8, value: &[u8])
@@ -37,13 +17,11 @@ fn put_field(bytes: &mut [u8], at: usize, tag: u8, value: &[u8])
     ensures { bytes.new ≡ paste bytes.old at (tag ∷ 0 ∷ length value.now ∷ value.now) (3 + length value.now) }
 {
     let size = value.len();
-    bytes[at] = tag;
-    bytes[at + 1] = 0;
-    bytes[at + 2] = size as u8;
+    bytes[at..at + 3].copy_from_slice(&[tag, 0, size as u8]);
     bytes[at + 3..at + 3 + size].copy_from_slice(value);
 }
 
-// Writes a line over the 43 bytes from a place on, and no other byte.
+// Writes a line over the 43 bytes from a place on, and no other byte. The sizes of the fields differ, so each has its own line here.
 pub(crate) fn put_line(bytes: &mut [u8], at: usize, line: Line)
     requires { at + 43 ≤ length bytes.old }
     ensures { bytes.new ≡ paste bytes.old at (line_bytes_of line) 43 }
@@ -53,7 +31,7 @@ pub(crate) fn put_line(bytes: &mut [u8], at: usize, line: Line)
     put_field(bytes, at + 18, 3, &line.taker.to_be_bytes());
     put_field(bytes, at + 25, 4, &line.shares.to_be_bytes());
     put_field(bytes, at + 32, 5, &line.price.to_be_bytes());
-    put_field(bytes, at + 39, 6, &[mark_code(line.mark)]);
+    put_field(bytes, at + 39, 6, &[u8::from(line.mark)]);
 }
 
 // The line as it stands in bytes.
@@ -65,27 +43,12 @@ pub fn line_bytes(line: Line) -> [u8; LINE_BYTES]
     bytes
 }
 
-fn eight_at(bytes: &[u8], at: usize) -> u64
-    requires { at + 8 ≤ length bytes.now }
-    ensures { result ≡ number_at bytes.now at 8 }
+// The bytes from a place on, as many as the number has that is read of them.
+fn bytes_at<const N: usize>(bytes: &[u8], at: usize) -> [u8; N]
+    requires { at + N ≤ length bytes.now }
+    ensures { result ≡ take N (drop at bytes.now) }
 {
-    u64::from_be_bytes([
-        bytes[at],
-        bytes[at + 1],
-        bytes[at + 2],
-        bytes[at + 3],
-        bytes[at + 4],
-        bytes[at + 5],
-        bytes[at + 6],
-        bytes[at + 7],
-    ])
-}
-
-fn four_at(bytes: &[u8], at: usize) -> u32
-    requires { at + 4 ≤ length bytes.now }
-    ensures { result ≡ number_at bytes.now at 4 }
-{
-    u32::from_be_bytes([bytes[at], bytes[at + 1], bytes[at + 2], bytes[at + 3]])
+    *bytes[at..].first_chunk().unwrap()
 }
 
 // What the value bytes of the line that begins at a place say.
@@ -94,26 +57,23 @@ pub(crate) fn line_at(bytes: &[u8], at: usize) -> Line
     ensures { result ≡ line_at bytes.now at }
 {
     Line {
-        time: eight_at(bytes, at + 3),
-        partner: four_at(bytes, at + 14),
-        taker: four_at(bytes, at + 21),
-        shares: four_at(bytes, at + 28),
-        price: four_at(bytes, at + 35),
-        mark: mark_of(bytes[at + 42]),
+        time: u64::from_be_bytes(bytes_at(bytes, at + 3)),
+        partner: u32::from_be_bytes(bytes_at(bytes, at + 14)),
+        taker: u32::from_be_bytes(bytes_at(bytes, at + 21)),
+        shares: u32::from_be_bytes(bytes_at(bytes, at + 28)),
+        price: u32::from_be_bytes(bytes_at(bytes, at + 35)),
+        mark: Mark::from(bytes[at + 42]),
     }
 }
 
 // The line that the bytes spell: none, unless they are exactly one line's bytes.
+#[tactic(auto, using(crate::proofs::Spelling::unread))]
 pub fn read_line(bytes: &[u8]) -> Option<Line>
     ensures { result ≡ line_read bytes.now }
 {
-    if bytes.len() != LINE_BYTES {
-        return None;
-    }
-    let line = line_at(bytes, 0);
-    let spelled = line_bytes(line);
-    let whole: &[u8] = &spelled;
-    if bytes == whole { Some(line) } else { None }
+    let whole: &[u8; LINE_BYTES] = bytes.as_array()?;
+    let line = line_at(whole, 0);
+    (line_bytes(line) == *whole).then_some(line)
 }
 
 // The line at a place in a row of lines, the oldest at 1: none where the bytes there are no line.

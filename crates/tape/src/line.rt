@@ -1,15 +1,41 @@
+ghost use Rattle.std.specs.Prelude.{◌≡◌};
+ghost use Rattle.tape.specs.Layout.{mark_code, mark_of};
+
 // One trade, as the tape keeps it.
 
-// Whether the trade depleted a side's best displayed price: 0 no, 1 the bid, 2 the offer.
-#[derive(Clone, Copy, PartialEq, Eq, Debug, Drop)]
+// Whether the trade depleted a side's best displayed price.
+#[derive(Clone, Copy, PartialEq, Eq, Debug, Default, Drop)]
 pub enum Mark {
-    Nothing,
-    BidDepleted,
-    OfferDepleted,
+    #[default]
+    Nothing = 0,
+    BidDepleted = 1,
+    OfferDepleted = 2,
+}
+
+// The byte of a mark.
+impl From<Mark> for u8 {
+    ghost from_gives = { λ mark code. code ≡ mark_code mark };
+
+    fn from(mark: Mark) -> u8 {
+        mark as u8
+    }
+}
+
+// Every other byte is read as no mark.
+impl From<u8> for Mark {
+    ghost from_gives = { λ code mark. mark ≡ mark_of code };
+
+    fn from(code: u8) -> Mark {
+        match code {
+            1 => Mark::BidDepleted,
+            2 => Mark::OfferDepleted,
+            _ => Mark::Nothing,
+        }
+    }
 }
 
 // Time is microseconds since midnight; partner and taker are entry numbers; the price is in half-cents.
-#[derive(Clone, Copy, PartialEq, Eq, Debug, Drop)]
+#[derive(Clone, Copy, PartialEq, Eq, Debug, Default, Drop)]
 pub struct Line {
     pub time: u64,
     pub partner: u32,

@@ -33,10 +33,7 @@ impl<'a> Tape for RecordTape<'a> {
     }
 
     fn write(&mut self, line: Line) -> Result<(), Full> {
-        match self.roll.push(line) {
-            Ok(()) => Ok(()),
-            Err(_) => Err(Full),
-        }
+        self.roll.push(line).map_err(|_| Full)
     }
 
     fn read(&self, place: usize) -> Option<Line> {

@@ -11,7 +11,7 @@ returns-in_default c =
     let id = c.args.id.now in
     let whole : length (vec_items self.places) ≡ 128 = sym self.places.ok.0 ∙ self.whole in
     let lawful : lawful_identifier id ≡ true = sym c.lawful_identifier.ensures ∙ c.if-not-lawful_identifier.false in
-    let found = found_number (vec_items self.places) id c.in_default.field-0.0 c.in_default.field-0.1 whole self.apart c.in_default.ensures in
+    let found = found_number (vec_items self.places) id c.in_default.field-0 c.in_default.field-1 whole self.apart c.in_default.ensures in
     record { because = held_refused id (hashed_number self id) self.held lawful (ap is_some found); same = refl; same_count = refl }
 
 pub invariant_of-self : goal.invariant_of-self
@@ -20,8 +20,8 @@ invariant_of-self c =
     let id = c.args.id.now in
     let ps = vec_items self.places in
     let e = c.entry_of.result in
-    let p = c.in-Err.place in
-    let free = c.in-Err.ensures in
+    let p = c.in-Free.place in
+    let free = c.in-Free.ensures in
     let own = c.entry_of.ensures.0 in
     let whole : length ps ≡ 128 = sym self.places.ok.0 ∙ self.whole in
     record {
@@ -38,8 +38,8 @@ returns c =
     let id = c.args.id.now in
     let ps = vec_items self.places in
     let e = c.entry_of.result in
-    let p = c.in-Err.place in
-    let free = c.in-Err.ensures in
+    let p = c.in-Free.place in
+    let free = c.in-Free.ensures in
     let own = c.entry_of.ensures.0 in
     let whole : length ps ≡ 128 = sym self.places.ok.0 ∙ self.whole in
     record {

@@ -7,9 +7,9 @@ pub close_gap-requires : goal.close_gap-requires
 close_gap-requires c =
     let self = c.args.self.now in
     let ps = vec_items self.places in
-    let found = c.in-Ok.ensures in
+    let found = c.in-Taken.ensures in
     let whole : length ps ≡ 128 = sym self.places.ok.0 ∙ self.whole in
-    gapped ps c.in-Ok.place found.pair whole found.within found.here self.chained self.apart (omega (arith, self.counted, self.few))
+    gapped ps c.in-Taken.place found.pair whole found.within found.here self.chained self.apart (omega (arith, self.counted, self.few))
 
 -- the table has one pair less than it had
 one_less : (c : goal.After-close_gap) → length (entries_in (vec_items c.close_gap.new.places)) + 1 ≡ c.args.self.now.held
@@ -17,7 +17,7 @@ one_less c =
     let self = c.args.self.now in
     let ps = vec_items self.places in
     let whole : length ps ≡ 128 = sym self.places.ok.0 ∙ self.whole in
-    count_removed ps (vec_items c.close_gap.new.places) c.args.id.now c.in-Ok.place c.in-Ok.number whole self.apart c.in-Ok.ensures c.close_gap.ensures ∙ sym self.counted
+    count_removed ps (vec_items c.close_gap.new.places) c.args.id.now c.in-Taken.place c.in-Taken.number whole self.apart c.in-Taken.ensures c.close_gap.ensures ∙ sym self.counted
 
 pub overflow_sub-self : goal.overflow_sub-self
 overflow_sub-self c = let less = one_less c in omega arith
@@ -37,15 +37,15 @@ returns c =
     let ps = vec_items self.places in
     let is = vec_items c.close_gap.new.places in
     let id = c.args.id.now in
-    let found = c.in-Ok.ensures in
+    let found = c.in-Taken.ensures in
     let closed = c.close_gap.ensures in
     let whole : length ps ≡ 128 = sym self.places.ok.0 ∙ self.whole in
-    let fewer = count_removed ps is id c.in-Ok.place c.in-Ok.number whole self.apart found closed ∙ sym self.counted in
+    let fewer = count_removed ps is id c.in-Taken.place c.in-Taken.number whole self.apart found closed ∙ sym self.counted in
     record {
-      told = sym (found_number ps id c.in-Ok.place c.in-Ok.number whole self.apart found);
+      told = sym (found_number ps id c.in-Taken.place c.in-Taken.number whole self.apart found);
       left = record {
         fewer = omega arith;
-        gone = removed_here ps is id c.in-Ok.place c.in-Ok.number whole self.apart found closed;
-        others = removed_others ps is id c.in-Ok.place c.in-Ok.number whole self.apart found closed;
+        gone = removed_here ps is id c.in-Taken.place c.in-Taken.number whole self.apart found closed;
+        others = removed_others ps is id c.in-Taken.place c.in-Taken.number whole self.apart found closed;
       };
     }

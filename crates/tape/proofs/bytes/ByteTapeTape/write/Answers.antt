@@ -1,20 +1,23 @@
-use Rattle.std.proofs.Common.{refl, rules}
+use Rattle.std.proofs.Common.{◌/◌, ◌<◌, length, arith, rules}
 use Rattle.tape.specs.Layout.{InWidth}
-use Rattle.tape.proofs.Rows.{tape_lines_more, tape_free_less, tape_row_more}
+use Rattle.tape.proofs.Rows.{tape_within, tape_lines_more, tape_free_less, tape_row_more}
 use Rattle.tape.proofs.bytes.ByteTapeTape.write.Goals as goal
 
-pub returns : goal.returns
-returns c =
+pub invariant_of-self : goal.invariant_of-self
+invariant_of-self c =
     let self = c.args.self.now in
-    let xs = self.bytes.now in
-    let ys = c.put_line.new.bytes in
-    let n = self.used in
-    let line = c.args.line in
-    let room = c.if-self.false in
-    let is = c.put_line.ensures in
-    let w : InWidth line = search rules in
+    let room : self.used < length self.bytes.now / 43 = omega (arith, c.free_lines.ensures) in
+    let w : InWidth c.args.line = search rules in
     record {
-      line = (tape_lines_more xs ys n line room is w, tape_free_less xs ys n line room is);
-      lent = (refl, (is, refl));
-      spelled_out = tape_row_more xs ys n line room is w;
+      within = tape_within self.bytes.now c.put_line.new.bytes self.used c.args.line room c.put_line.ensures;
+      spelled_out = tape_row_more self.bytes.now c.put_line.new.bytes self.used c.args.line room c.put_line.ensures w self.spelled_out;
     }
+
+pub returns-clause-line : goal.returns-clause-line
+returns-clause-line c =
+    let self = c.args.self.now in
+    let room : self.used < length self.bytes.now / 43 = omega (arith, c.free_lines.ensures) in
+    let w : InWidth c.args.line = search rules in (
+      tape_lines_more self.bytes.now c.put_line.new.bytes self.used c.args.line room c.put_line.ensures w,
+      tape_free_less self.bytes.now c.put_line.new.bytes self.used c.args.line room c.put_line.ensures,
+    )
