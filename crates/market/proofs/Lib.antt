@@ -3,3 +3,4 @@ pub mod Lined
 pub mod Settled
 pub mod Turns
 pub mod Written
+pub mod Underway

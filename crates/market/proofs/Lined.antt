@@ -1,4 +1,4 @@
--- A sweep, line by line. Cite lines_go for a line, lines_gone and lines_alone where it ends, line_free for the tape.
+-- A sweep, line by line. Cite lines_go for a line, lines_gone and lines_alone where it ends, line_room for the tape.
 use Rattle.std.proofs.Common.{◌≡◌, ℕ, zero, suc, ◌+◌, ◌≤◌, Bool, true, false, ◌&&◌, List, [], ◌∷◌, length, Some, None, fold, Option, sym, refl, ap, ◌∙◌, arith, length-append}
 use Rattle.terms.specs.Sides.{opposite, same_side, meets}
 use Rattle.terms.specs.declared.kinds.Side.{Side}
@@ -76,7 +76,7 @@ sweep_lines ls b t o turns price e f =
     ap (λ n. lines n t (reach_in (market_with ls b) o) o (market_with ls b)) (sym e)
     ∙ ap (λ p. lines turns t p o (market_with ls b)) (sym (f ∙ reach_still ls b o))
 
--- a line that is still to be made finds a free line: the whole sweep has room, and nothing leaves the tape
-pub line_free : (t p : ℕ) (o : Order) (n : ℕ) (m whole : Market) (row x : Order) (capacity free : ℕ) → whole ≡ lines n t p o (trade t p row x m) → length whole.tape ≤ capacity → length m.tape + free ≡ capacity → 1 ≤ free
-line_free t p o n m whole row x capacity free e room same =
-    omega (arith, ap (λ (r : Market). length r.tape) e, room, same, trade_longer t p row x m, lines_longer t p o n (trade t p row x m))
+-- a line that is still to be made has room, if the whole sweep has
+pub line_room : (t p : ℕ) (o : Order) (n : ℕ) (m whole : Market) (row x : Order) (here capacity : ℕ) → whole ≡ lines n t p o (trade t p row x m) → length whole.tape ≤ capacity → here ≡ capacity → length (trade t p row x m).tape ≤ here
+line_room t p o n m whole row x here capacity e room same =
+    omega (arith, ap (λ (r : Market). length r.tape) e, room, same, lines_longer t p o n (trade t p row x m))

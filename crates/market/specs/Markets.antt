@@ -1,9 +1,10 @@
 -- The order table with its tape, as the rule book's market.
-use Rattle.std.specs.Prelude.{ℕ, ◌+◌, ◌<◌, ◌≤◌, List, length}
+use Rattle.std.specs.Prelude.{◌≡◌, ℕ, ◌+◌, ◌<◌, ◌≤◌, List, length, vec_items}
 use Rattle.tape.specs.declared.tapes.Tape.{Ghosts as TapeOf}
+use Rattle.rules.specs.Limits.{last_moment}
 use Rattle.rules.specs.Market.{Market}
 use Rattle.orders.specs.declared.row.Row.{Row}
-use Rattle.orders.specs.Changes.{newest_number}
+use Rattle.orders.specs.Changes.{SameButShares, newest_number}
 use Rattle.orders.specs.Seen.{market_with}
 use Rattle.market.specs.declared.state.Market.{Market as TableAndTape}
 
@@ -17,6 +18,14 @@ capacity_of t k = length (t.lines k.tape) + t.free k.tape
 -- the lines of a market that the rule book makes of this one find room on its tape
 abbrev pub HasRoom : {T : Type 0} → TapeOf T → TableAndTape T → Market → Type 0
 HasRoom t k m = length m.tape ≤ capacity_of t k
+
+-- where the time is within the day and the lines find room, what the rule book makes of the market has become of it; the tape
+-- has room for as many lines as before, and the rows are the same but for their shares
+-- (the time is any number, since a type of times of the day would ask more of whoever calls)
+pub record Follows {T : Type 0} (t : TapeOf T) (old new : TableAndTape T) (time : ℕ) (rule : Market → Market) : Type 0 where
+  pub market : time ≤ last_moment → HasRoom t old (rule (market_of t old)) → market_of t new ≡ rule (market_of t old)
+  pub capacity : capacity_of t new ≡ capacity_of t old
+  pub rows : SameButShares (vec_items old.table.rows) (vec_items new.table.rows)
 
 -- the row can join the table: a row is free, its entry number is above all others, and it has shares left
 pub record CanJoin (rs : List Row) (r : Row) : Type 0 where

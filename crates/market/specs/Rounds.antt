@@ -1,5 +1,5 @@
 -- Which orders a round sweeps.
-use Rattle.std.specs.Prelude.{ℕ, Bool, true, false}
+use Rattle.std.specs.Prelude.{ℕ, Bool, true, false, List, Some, None, slice_get}
 use Rattle.rules.specs.Market.{Order, Market}
 use Rattle.rules.specs.Sweep.{sweep}
 use Rattle.orders.specs.declared.row.Row.{Row}
@@ -16,3 +16,7 @@ woken QuoteChanged o = follows_quote o
 -- one row of a round
 abbrev pub swept_if : Round → ℕ → Row → Market → Market
 swept_if g t r m = elim (woken g (row_order r)) [ true ↦ sweep t (row_order r) m | false ↦ m ]
+
+-- the row at an index, where there is one
+abbrev pub swept_at : Round → ℕ → ℕ → List Row → Market → Market
+swept_at g t i rs m = elim (slice_get rs i) [ None ↦ m | Some r ↦ swept_if g t r m ]

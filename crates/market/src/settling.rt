@@ -1,9 +1,7 @@
 // The clock: every protection period ends at its own end, whenever it is that the market is told the time.
-ghost use Rattle.std.specs.Prelude.{◌≡◌, ◌≤◌};
-ghost use Rattle.rules.specs.Limits.{last_moment};
+ghost use Rattle.std.specs.Prelude.{◌≡◌};
 ghost use Rattle.rules.specs.Clock.{due as due_of, end_period as end_period_of, settle as settle_of};
-ghost use Rattle.orders.specs.Changes.{SameButShares};
-ghost use Rattle.market.specs.Markets.{market_of, capacity_of, HasRoom};
+ghost use Rattle.market.specs.Markets.{market_of, Follows};
 
 use crate::round::Round;
 use crate::state::Market;
@@ -26,11 +24,7 @@ impl<T: Tape> Market<T> {
 
     // The side's period ends, and its QDP orders are swept at that time.
     fn end_period(&mut self, side: Side, end: u64)
-        ensures market { end ≤ last_moment
-            → HasRoom T.Tape self.old (end_period_of (side, end) (market_of T.Tape self.old))
-            → market_of T.Tape self.new ≡ end_period_of (side, end) (market_of T.Tape self.old) }
-        ensures capacity { capacity_of T.Tape self.new ≡ capacity_of T.Tape self.old }
-        ensures rows { SameButShares self.old.table.rows.items self.new.table.rows.items }
+        ensures { Follows T.Tape self.old self.new end (end_period_of (side, end)) }
     {
         self.table.set_end(side, None);
         self.sweep_each(end, Round::PeriodEnded(side));
@@ -39,14 +33,11 @@ impl<T: Tape> Market<T> {
     // Every period that is due by the time has ended. A period that begins here ends an order, so two turns more than orders
     // rest are enough.
     pub fn settle(&mut self, time: u64)
-        ensures market { time ≤ last_moment
-            → HasRoom T.Tape self.old (settle_of time (market_of T.Tape self.old))
-            → market_of T.Tape self.new ≡ settle_of time (market_of T.Tape self.old) }
-        ensures capacity { capacity_of T.Tape self.new ≡ capacity_of T.Tape self.old }
-        ensures rows { SameButShares self.old.table.rows.items self.new.table.rows.items }
+        ensures { Follows T.Tape self.old self.new time (settle_of time) }
     {
+        // counted as in the rule book, whose settling has so many turns
         let turns = self.table.len_resting() + 2;
-        for turn in 0..turns {
+        for _ in 0..turns {
             let Some((side, end)) = self.due(time) else {
                 return;
             };

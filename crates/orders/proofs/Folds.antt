@@ -1,20 +1,53 @@
--- A scan over the rows is the rule book's fold over the orders that rest. Cite scanned for the whole, scan_more for a turn.
-use Rattle.std.proofs.Common.{◌≡◌, ℕ, ◌+◌, ◌<◌, Bool, true, false, List, [], ◌∷◌, length, get_or, take, fold, sym, refl, ap, ◌∙◌}
-use Rattle.std.proofs.lemmas.List.Sums.{fold_more}
-use Rattle.rules.specs.Market.{Order}
+-- A scan over the rows is the rule book's fold over the orders that rest. Cite all_resting for a test, sum_resting with none_of
+-- and few_shares for a sum of shares.
+use Rattle.std.proofs.Common.{◌≡◌, ℕ, ◌+◌, ◌*◌, ◌^◌, ◌<◌, ◌≤◌, min, eqb, Bool, true, false, cond, ◌&&◌, List, [], ◌∷◌, length, get_or, fold, sym, refl, ap, ◌∙◌, inl, inr, arith}
+use Rattle.std.proofs.lemmas.List.Folds.{list_all-map}
+use Rattle.std.proofs.lemmas.List.Sums.{sum_by-le}
+use Rattle.std.proofs.lemmas.Bool.{cases_Bool, ltb-false}
+use Rattle.std.proofs.Math.Bool.{and-true, and_assoc}
+use Rattle.std.specs.List.{filter, list_all, sum_by}
+use Rattle.terms.specs.declared.kinds.Side.{Side}
+use Rattle.rules.specs.Market.{Market, Order, ranked_in}
+use Rattle.rules.specs.Sweep.{shows}
+use Rattle.orders.specs.Displays.{shares_there}
 use Rattle.orders.specs.declared.row.Row.{Row}
-use Rattle.orders.specs.Rows.{row_order, rests, orders_in, resting_step}
+use Rattle.orders.specs.Rows.{row_order, rests, orders_in}
+use Rattle.orders.proofs.Found.{orders_of, orders_in_resting, orders_in_spent}
+use Rattle.orders.proofs.Joined.{orders_in_none}
 
-module _ {B : Type 0} (f : B → Order → B) where
-  one : (b : Bool) (a : B) (r : Row) (os : List Order) → fold f (elim b as (λ _. B) [ true ↦ f a (row_order r) | false ↦ a ]) os ≡ fold f a (elim b as (λ _. List Order) [ true ↦ row_order r ∷ os | false ↦ os ])
-  one true a r os = refl
-  one false a r os = refl
+-- that each order of a list passes a test
+all_folded : (p : Order → Bool) (b : Bool) (os : List Order) → (b && list_all p os) ≡ fold (λ so_far o. so_far && p o) b os
+all_folded p b [] = and-true b
+all_folded p b (o ∷ os) = sym (and_assoc b (p o) (list_all p os)) ∙ all_folded p (b && p o) os
 
-  pub scanned : (a : B) (rs : List Row) → fold (resting_step f) a rs ≡ fold f a (orders_in rs)
-  unfolding orders_in
-  scanned a [] = refl
-  scanned a (r ∷ rs) = scanned (resting_step f a r) rs ∙ one (rests r) a r (orders_in rs)
+pub all_resting : (p : Order → Bool) (rs : List Row) → list_all (λ r. p (row_order r)) (filter rests rs) ≡ fold (λ so_far o. so_far && p o) true (orders_in rs)
+all_resting p rs = sym (list_all-map p row_order (filter rests rs)) ∙ ap (list_all p) (orders_of rs) ∙ all_folded p true (orders_in rs)
 
-  pub scan_more : (a : B) (rs : List Row) (i : ℕ) (r : Row) (b b' : B) → i < length rs → r ≡ get_or rs i r → b ≡ fold (resting_step f) a (take i rs) → b' ≡ resting_step f b r → b' ≡ fold (resting_step f) a (take (i + 1) rs)
-  scan_more a rs i r b b' h e k s =
-      s ∙ ap (λ z. resting_step f z r) k ∙ ap (resting_step f (fold (resting_step f) a (take i rs))) e ∙ sym (fold_more (resting_step f) a rs i r h)
+-- a sum over the rows is that over the orders that rest, where a row that rests no more adds none
+module _ (h : Order → ℕ) (none : (r : Row) → rests r ≡ false → h (row_order r) ≡ 0) where
+  from : (a : ℕ) (rs : List Row) → fold (λ n r. n + h (row_order r)) a rs ≡ fold (λ n o. n + h o) a (orders_in rs)
+  from a [] = ap (fold (λ n o. n + h o) a) (sym orders_in_none)
+  from a (r ∷ rs) =
+      let here = h (row_order r) in
+      elim (cases_Bool (rests r)) [
+        | inl t ↦ from (a + here) rs ∙ ap (fold (λ n o. n + h o) a) (sym (orders_in_resting r rs t))
+        | inr f ↦
+            let same : a + here ≡ a = omega (arith, none r f) in
+            ap (λ n. fold (λ k x. k + h (row_order x)) n rs) same ∙ from a rs
+            ∙ ap (fold (λ n o. n + h o) a) (sym (orders_in_spent r rs f))
+      ]
+
+  pub sum_resting : (rs : List Row) → sum_by (λ r. h (row_order r)) rs ≡ sum_by h (orders_in rs)
+  sum_resting rs = from 0 rs
+
+-- a row's shares, where a test of the row passes: none, where it rests no more
+pub none_of : (b : Bool) (r : Row) → rests r ≡ false → cond b r.left 0 ≡ 0
+none_of true r f = omega (arith, ltb-false 0 r.left f)
+none_of false r f = refl
+
+-- with so many rows at most, the sum of their shares fits
+pub few_shares : (h : Row → ℕ) (rs : List Row) → length rs ≤ 65 → sum_by (λ r. min (h r) (2 ^ 32)) rs < 2 ^ 64
+few_shares h rs few =
+    let most : (r : Row) → min (h r) (2 ^ 32) ≤ 2 ^ 32 = λ r. omega arith in
+    let all : sum_by (λ r. min (h r) (2 ^ 32)) rs ≤ length rs * 2 ^ 32 = sum_by-le (λ r. min (h r) (2 ^ 32)) (2 ^ 32) rs (λ k d lt. most (get_or rs k d)) in
+    omega arith

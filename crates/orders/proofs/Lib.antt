@@ -1,3 +1,4 @@
+pub mod Best
 pub mod Changed
 pub mod Dropped
 pub mod Folds

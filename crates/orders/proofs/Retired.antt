@@ -1,14 +1,14 @@
 -- A row that rests no more can be dropped: the orders stay, and so do ascending numbers. By induction over the rows before it.
--- Cite: orders_in_dropped, rising_dropped for the row between two parts; rests_more, first_here for a loop over rows that rest.
-use Rattle.std.proofs.Common.{◌≡◌, ℕ, suc, ◌+◌, ◌<◌, ◌≤◌, true, false, ltb, List, [], ◌∷◌, ◌++◌, map, length, get_or, take, drop, sym, refl, ap, ◌∙◌, subst, arith, drop-cons}
-use Rattle.std.proofs.lemmas.List.{take_more, map_push, length-map, take-append-drop, take_all, get_or_read}
-use Rattle.std.proofs.lemmas.Bool.{ltb-true, lt-ltb, le-ltb, and_parts, and_from}
-use Rattle.std.specs.List.{remove}
+-- Cite: orders_in_dropped, rising_dropped for the row between two parts; first_spent for the first row that rests no more.
+use Rattle.std.proofs.Common.{◌≡◌, ℕ, suc, ◌<◌, ◌≤◌, Bool, true, false, not, ltb, List, [], ◌∷◌, ◌++◌, map, length, get_or, take, drop, sym, refl, ap, ◌∙◌, arith, drop-cons, MatchOption}
+use Rattle.std.proofs.lemmas.List.{length-map, take-append-drop}
+use Rattle.std.proofs.lemmas.Bool.{ltb-true, lt-ltb, and_parts, and_from}
+use Rattle.std.specs.List.{remove, position}
 use Rattle.orders.specs.declared.row.Row.{Row}
 use Rattle.orders.specs.Rows.{row_order, rising, rests, orders_in}
 use Rattle.orders.specs.Changes.{AllRest, FirstSpent, Retired}
-use Rattle.orders.proofs.Found.{orders_in_spent}
-use Rattle.orders.proofs.Joined.{orders_in_append, orders_in_none, orders_in_one}
+use Rattle.orders.proofs.Found.{orders_in_resting, orders_in_spent, first}
+use Rattle.orders.proofs.Joined.{orders_in_append, orders_in_none}
 
 pub orders_in_dropped : (xs : List Row) (r : Row) (ys : List Row) → rests r ≡ false → orders_in (xs ++ ys) ≡ orders_in (xs ++ r ∷ ys)
 orders_in_dropped xs r ys f =
@@ -36,25 +36,24 @@ all_rest rs e = record { orders = e; count = sym (length-map rs row_order) ∙ a
 pub rests_none : AllRest []
 rests_none = all_rest [] (sym orders_in_none)
 
--- a loop passes a row that rests
-pub rests_more : (rs : List Row) (i : ℕ) (r : Row) → i < length rs → r ≡ get_or rs i r → rests r ≡ true → AllRest (take i rs) → AllRest (take (i + 1) rs)
-rests_more rs i r lt is t all =
-    let more : take (i + 1) rs ≡ take i rs ++ r ∷ [] = take_more rs i r lt ∙ ap (λ x. take i rs ++ x ∷ []) (sym is) in
-    all_rest (take (i + 1) rs)
-    (ap (map row_order) more
-    ∙ map_push row_order (take i rs) r
-    ∙ ap (λ os. os ++ row_order r ∷ []) all.orders
-    ∙ ap (λ os. orders_in (take i rs) ++ os) (sym (orders_in_one r t))
-    ∙ sym (orders_in_append (take i rs) (r ∷ []))
-    ∙ ap orders_in (sym more))
+pub first_spent : (rs : List Row) → MatchOption (position (λ r. not (rests r)) rs) (AllRest rs) (FirstSpent rs)
+first_spent =
+    first (λ r. not (rests r)) (λ rs i. FirstSpent rs i) AllRest
+    (λ r rs t. record { within = omega arith; spent = λ d. not-true (rests r) t; first = rests_none })
+    (λ r rs i f at. record { within = let lt = at.within in omega arith; spent = at.spent; first = rests_too r (take i rs) (not-false (rests r) f) at.first })
+    rests_none
+    (λ r rs f all. rests_too r rs (not-false (rests r) f) all)
+  where
+    not-true : (b : Bool) → not b ≡ true → b ≡ false
+    not-true false e = refl
+    not-true true e = cc
 
--- a loop stops at a row that rests no more
-pub first_here : (rs : List Row) (i : ℕ) (r : Row) → i < length rs → r ≡ get_or rs i r → r.left ≤ 0 → AllRest (take i rs) → FirstSpent rs i
-first_here rs i r lt is le all =
-    record { within = lt; spent = λ d. ap rests (sym (get_or_read rs i r lt is d)) ∙ le-ltb 0 r.left le; first = all }
+    not-false : (b : Bool) → not b ≡ false → b ≡ true
+    not-false true e = refl
+    not-false false e = cc
 
-pub all_passed : (rs : List Row) (i : ℕ) → length rs ≤ i → AllRest (take i rs) → AllRest rs
-all_passed rs i le all = subst (λ xs. AllRest xs) (take_all i rs le) all
+    rests_too : (r : Row) (rs : List Row) → rests r ≡ true → AllRest rs → AllRest (r ∷ rs)
+    rests_too r rs t all = all_rest (r ∷ rs) (ap (λ os. row_order r ∷ os) all.orders ∙ sym (orders_in_resting r rs t))
 
 -- the rows about the one at i
 pub parted : (rs : List Row) (i : ℕ) (r : Row) → i < length rs → r ≡ get_or rs i r → rs ≡ take i rs ++ r ∷ drop (suc i) rs

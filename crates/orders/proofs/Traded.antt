@@ -1,5 +1,5 @@
 -- A line, step by step: what the rule book's trade makes of the rows once the partner, and then the taker, is lowered.
-use Rattle.std.proofs.Common.{◌≡◌, ℕ, Bool, true, false, ◌&&◌, ltb, List, [], ◌∷◌, ◌++◌, refl, ap, ◌∙◌}
+use Rattle.std.proofs.Common.{◌≡◌, ℕ, Bool, true, false, ◌&&◌, ltb, List, [], ◌∷◌, ◌++◌, sym, refl, ap, ◌∙◌}
 use Rattle.terms.specs.declared.kinds.Side.{Side}
 use Rattle.tape.specs.declared.line.Line.{Line}
 use Rattle.tape.specs.declared.line.Mark.{Mark}
@@ -14,13 +14,45 @@ pub shares_still : (os ps : List Order) (m : Market) (s : Side) (r : ℕ) → di
 unfolding displayed_shares ranked_in
 shares_still os ps m s r = refl
 
--- whether a line depletes, from what was seen before the partner was lowered and after
-pub depletes_is : (m m' : Market) (x : Order) (after : List Order) (d b f : Bool) (r sum : ℕ) → m' ≡ with_orders after m → r ≡ ranked_in m x → d ≡ displayed x.terms.kind → b ≡ best_displayed m (side_of x) r m.orders → sum ≡ displayed_shares m' (side_of x) r m'.orders → f ≡ ltb sum round_lot → (d && (b && f)) ≡ depletes m x after
-unfolding depletes
-depletes_is m m' x after d b f r sum lowered ranked shown best there few =
-    let e : sum ≡ displayed_shares m (side_of x) r after =
-    there ∙ ap (λ z. displayed_shares z (side_of x) r z.orders) lowered ∙ shares_still after after m (side_of x) r
-    in cc
+-- the partner stood displayed at the best price, or did not, from the two tests of the code
+pub stood_shown : (d b s : Bool) → d ≡ true → s ≡ b → s ≡ (d && b)
+stood_shown true b s e h = h
+stood_shown false b s e h = cc
+
+pub stood_hidden : (d b s : Bool) → d ≡ false → s ≡ d → s ≡ (d && b)
+stood_hidden false b s e h = h
+stood_hidden true b s e h = cc
+
+module _ (m : Market) (x : Order) (after : List Order) (r : ℕ) (ranked : r ≡ ranked_in m x) where
+  tests : (d b f : Bool) → (d && b) ≡ true → f ≡ (d && (b && f))
+  tests true true f e = refl
+  tests true false f e = cc
+  tests false b f e = cc
+
+  no_test : (d b f : Bool) → (d && b) ≡ false → false ≡ (d && (b && f))
+  no_test true true f e = cc
+  no_test true false f e = refl
+  no_test false b f e = refl
+
+  -- whether a line depletes: where the partner stood so, by what is displayed once it is lowered
+  pub depletes_then : (m' : Market) (s f : Bool) (sum : ℕ) → s ≡ (displayed x.terms.kind && best_displayed m (side_of x) r m.orders) → s ≡ true
+      → m' ≡ with_orders after m → sum ≡ displayed_shares m' (side_of x) r m'.orders → f ≡ ltb sum round_lot → f ≡ depletes m x after
+  unfolding depletes
+  depletes_then m' s f sum stood t lowered there few =
+      let e : sum ≡ displayed_shares m (side_of x) r after =
+      there ∙ ap (λ z. displayed_shares z (side_of x) r z.orders) lowered ∙ shares_still after after m (side_of x) r
+      in
+      tests (displayed x.terms.kind) (best_displayed m (side_of x) r m.orders) f (sym stood ∙ t)
+      ∙ ap (λ g. displayed x.terms.kind && (best_displayed m (side_of x) r m.orders && g)) (few ∙ ap (λ n. ltb n round_lot) e)
+      ∙ ap (λ q. displayed x.terms.kind && (best_displayed m (side_of x) q m.orders && ltb (displayed_shares m (side_of x) q after) round_lot)) ranked
+
+  -- and otherwise it does not
+  pub depletes_not : (s : Bool) → s ≡ (displayed x.terms.kind && best_displayed m (side_of x) r m.orders) → s ≡ false → s ≡ depletes m x after
+  unfolding depletes
+  depletes_not s stood f =
+      f
+      ∙ no_test (displayed x.terms.kind) (best_displayed m (side_of x) r m.orders) _ (sym stood ∙ f)
+      ∙ ap (λ q. displayed x.terms.kind && (best_displayed m (side_of x) q m.orders && ltb (displayed_shares m (side_of x) q after) round_lot)) ranked
 
 -- the market with other lines on its tape
 abbrev pub retaped : List Line → Market → Market

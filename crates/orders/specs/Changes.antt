@@ -1,7 +1,7 @@
 -- What the calls that look up or change single rows say of the rows.
 use Rattle.std.specs.Prelude.{◌≡◌, ℕ, ◌<◌, true, false, List, [], ◌∷◌, ◌++◌, map, length, get_or, take, Some, ◌≢◌, slice_index_or}
 use Rattle.rules.specs.Market.{resting}
-use Rattle.orders.specs.declared.identifier.Identifier.{Identifier}
+use Rattle.terms.specs.declared.identifiers.Identifier.{Identifier}
 use Rattle.orders.specs.declared.row.Row.{Row}
 use Rattle.orders.specs.Rows.{row_order, rests, orders_in}
 

@@ -1,5 +1,5 @@
 -- The table as the rule book's market; the tape stands elsewhere, so its lines are handed in.
-use Rattle.std.specs.Prelude.{List, [], vec_items}
+use Rattle.std.specs.Prelude.{◌≡◌, List, [], vec_items}
 use Rattle.tape.specs.declared.line.Line.{Line}
 use Rattle.rules.specs.Market.{Market}
 use Rattle.orders.specs.declared.table.Table.{Table}
@@ -11,11 +11,15 @@ market_with tape b =
       orders = orders_in (vec_items b.rows);
       bid = b.quote.bid;
       offer = b.quote.offer;
-      buy_end = b.buy_end;
-      sell_end = b.sell_end;
+      buy_end = b.ends.buy;
+      sell_end = b.ends.sell;
       tape = tape;
     }
 
 -- for what does not look at the tape
 abbrev pub seen : Table → Market
 seen b = market_with [] b
+
+-- what a rule makes of the market, whatever is on the tape, has become of it
+abbrev pub Becomes : Table → Table → (Market → Market) → Type 0
+Becomes old new rule = (tape : List Line) → market_with tape new ≡ rule (market_with tape old)

@@ -15,12 +15,9 @@ impl Table {
             (resting number (orders_in self.now.rows.items) ≡ None)
             (λ i. RestsAt self.now.rows.items number i) }
     {
-        for (i, row) in self.rows.iter().enumerate() {
-            if row.number == number && row.left > 0 {
-                return Some(i);
-            }
-        }
-        None
+        self.rows
+            .iter()
+            .position(|row| row.number == number && row.rests())
     }
 
     // The resting row with that entry number.
@@ -35,12 +32,6 @@ impl Table {
     pub fn len_resting(&self) -> usize
         ensures { result ≡ length (orders_in self.now.rows.items) }
     {
-        let mut count = 0;
-        for row in self.rows.iter() {
-            if row.left > 0 {
-                count += 1;
-            }
-        }
-        count
+        self.rows.iter().filter(|row| row.rests()).count()
     }
 }

@@ -12,13 +12,16 @@ impl Table {
         self.rows.len()
     }
 
+    // All rows, with shares left or without.
+    pub fn rows(&self) -> &[Row]
+        ensures { result.now ≡ self.now.rows.items }
+    {
+        &self.rows
+    }
+
     pub fn row_at(&self, index: usize) -> Option<Row>
         ensures { MatchOption result (length self.now.rows.items ≤ index) (λ row. (index < length self.now.rows.items) × (row ≡ slice_index_or self.now.rows.items index row)) }
     {
-        if index < self.len() {
-            Some(self.rows[index])
-        } else {
-            None
-        }
+        self.rows.get(index).copied()
     }
 }

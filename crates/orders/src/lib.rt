@@ -7,7 +7,6 @@ pub mod identifier;
 pub mod indexing;
 pub mod joining;
 pub mod lowering;
-pub mod naming;
 pub mod opening;
 pub mod prices;
 pub mod reading;

@@ -1,17 +1,18 @@
 // A new table; its quote and the ends of its protection periods are set here.
-ghost use Rattle.std.specs.Prelude.{◌≡◌, List, [], IfOk};
-ghost use Rattle.tape.specs.declared.line.Line.{Line};
+ghost use Rattle.std.specs.Prelude.{◌≡◌, [], IfOk};
 ghost use Rattle.rules.specs.Market.{with_end, with_quote};
 ghost use Rattle.rules.specs.Runs.{opened};
-ghost use Rattle.orders.specs.Seen.{market_with, seen};
+ghost use Rattle.orders.specs.Seen.{Becomes, seen};
 
 use crate::table::Table;
+use rules::MOST_RESTING;
 use std::alloc::{AllocError, Global};
 use terms::kinds::Side;
 use terms::lawful::Quote;
+use terms::per_side::PerSide;
 
-// How many rows stand at most: 64 that rest, and one that is being entered.
-pub(crate) const MOST_ROWS: usize = 65;
+// How many rows stand at most: those that rest, and one that is being entered.
+pub(crate) const MOST_ROWS: usize = MOST_RESTING + 1;
 
 impl Table {
     // An empty table, with room for all rows that it will ever hold. Fails only for want of memory.
@@ -22,14 +23,16 @@ impl Table {
         Ok(Table {
             rows,
             quote,
-            buy_end: None,
-            sell_end: None,
+            ends: PerSide {
+                buy: None,
+                sell: None,
+            },
         })
     }
 
     pub fn set_quote(&mut self, quote: Quote)
         ensures quote { self.new.quote ≡ quote }
-        ensures market { (tape : List Line) → market_with tape self.new ≡ with_quote quote.bid quote.offer (market_with tape self.old) }
+        ensures market { Becomes self.old self.new (with_quote quote.bid quote.offer) }
         ensures rows { self.new.rows ≡ self.old.rows }
     {
         self.quote = quote;
@@ -37,12 +40,9 @@ impl Table {
 
     // Sets or clears the end of the side's protection period.
     pub fn set_end(&mut self, side: Side, end: Option<u64>)
-        ensures market { (tape : List Line) → market_with tape self.new ≡ with_end side end (market_with tape self.old) }
+        ensures market { Becomes self.old self.new (with_end side end) }
         ensures rows { self.new.rows ≡ self.old.rows }
     {
-        match side {
-            Side::Buy => self.buy_end = end,
-            Side::Sell => self.sell_end = end,
-        }
+        self.ends.set(side, end);
     }
 }

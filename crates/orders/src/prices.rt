@@ -14,10 +14,7 @@ impl Table {
     pub fn period_runs(&self, side: Side) -> bool
         ensures { result ≡ period_runs_of side (seen self.now) }
     {
-        match side {
-            Side::Buy => self.buy_end.is_some(),
-            Side::Sell => self.sell_end.is_some(),
-        }
+        self.ends.get(side).is_some()
     }
 
     pub fn ranked(&self, row: &Row) -> u32

@@ -18,9 +18,6 @@ impl Table {
     pub fn end(&self, side: Side) -> Option<u64>
         ensures { result ≡ end_of side (seen self.now) }
     {
-        match side {
-            Side::Buy => self.buy_end,
-            Side::Sell => self.sell_end,
-        }
+        *self.ends.get(side)
     }
 }

@@ -1,8 +1,7 @@
 // Rows that rest no more are dropped one at a time.
-ghost use Rattle.std.specs.Prelude.{◌≡◌, ◌+◌, List, vec_len, MatchOption};
-ghost use Rattle.tape.specs.declared.line.Line.{Line};
+ghost use Rattle.std.specs.Prelude.{◌≡◌, ◌+◌, vec_len, MatchOption};
 ghost use Rattle.orders.specs.Rows.{orders_in};
-ghost use Rattle.orders.specs.Seen.{market_with};
+ghost use Rattle.orders.specs.Seen.{Becomes};
 ghost use Rattle.orders.specs.Changes.{AllRest, FirstSpent, Retired};
 
 use crate::identifier::Identifier;
@@ -13,18 +12,13 @@ impl Table {
     fn first_spent(&self) -> Option<usize>
         ensures { MatchOption result (AllRest self.now.rows.items) (λ i. FirstSpent self.now.rows.items i) }
     {
-        for (i, row) in self.rows.iter().enumerate() {
-            if row.left == 0 {
-                return Some(i);
-            }
-        }
-        None
+        self.rows.iter().position(|row| !row.rests())
     }
 
     // Drops the first row that rests no more and tells its identifier; where every row rests, nothing changes.
     pub fn retire(&mut self) -> Option<Identifier>
         ensures orders { orders_in self.new.rows.items ≡ orders_in self.old.rows.items }
-        ensures market { (tape : List Line) → market_with tape self.new ≡ market_with tape self.old }
+        ensures market { Becomes self.old self.new (λ m. m) }
         ensures told { MatchOption result
             ((self.new ≡ self.old) × AllRest self.old.rows.items)
             (λ id. Retired self.old.rows.items self.new.rows.items id) }

@@ -1,14 +1,14 @@
 // The next partner: one scan over the rows.
 ghost use Rattle.std.specs.Prelude.{◌≡◌, true, false};
 ghost use Rattle.std.specs.Option.{option_map};
-ghost use Rattle.rules.specs.Priority.{is_partner as is_partner_of, line_price as line_price_of, line_class as line_class_of, ahead as ahead_of, better_of, next_partner as next_partner_of, partner_for as partner_for_of};
-ghost use Rattle.orders.specs.Rows.{row_order, rests as rests_of, resting_step, orders_in};
+ghost use Rattle.rules.specs.Priority.{class_number, is_partner as is_partner_of, line_price as line_price_of, line_class as line_class_of, ahead as ahead_of, next_partner as next_partner_of, partner_for as partner_for_of};
+ghost use Rattle.orders.specs.Rows.{row_order, rests as rests_of, orders_in};
 ghost use Rattle.orders.specs.Seen.{seen};
 
 use crate::row::Row;
-use crate::sides::{is_same, meets, opposite};
+use crate::sides::{meets, opposite};
 use crate::table::Table;
-use rules::priority::{Keys, class_of};
+use rules::priority::{Class, Keys, class_of};
 use terms::kinds::Side;
 
 impl Row {
@@ -24,7 +24,7 @@ impl Table {
     fn is_partner(&self, side: Side, price: u32, row: &Row) -> bool
         ensures { result ≡ is_partner_of (seen self.now) side price (row_order row.now) }
     {
-        is_same(row.terms.side, side) && meets(side, self.reach(row), price)
+        row.terms.side == side && meets(side, self.reach(row), price)
     }
 
     // The row's ranked price, or the taker's where the ranked price falls short of it.
@@ -39,13 +39,26 @@ impl Table {
         }
     }
 
-    fn line_class(&self, price: u32, row: &Row) -> u8
-        ensures { result ≡ line_class_of (seen self.now) price (row_order row.now) }
+    fn line_class(&self, price: u32, row: &Row) -> Class
+        ensures { class_number result ≡ line_class_of (seen self.now) price (row_order row.now) }
     {
         if self.line_price(price, row) == self.ranked(row) {
             class_of(row.terms.kind)
         } else {
-            4
+            Class::Away
+        }
+    }
+
+    // The keys by which a row is chosen.
+    fn keys(&self, price: u32, row: &Row) -> Keys
+        ensures price { result.price ≡ line_price_of (seen self.now) price (row_order row.now) }
+        ensures class { class_number result.class ≡ line_class_of (seen self.now) price (row_order row.now) }
+        ensures number { result.number ≡ row.now.number }
+    {
+        Keys {
+            price: self.line_price(price, row),
+            class: self.line_class(price, row),
+            number: row.number,
         }
     }
 
@@ -53,48 +66,23 @@ impl Table {
     fn ahead(&self, side: Side, price: u32, row: &Row, other: &Row) -> bool
         ensures { result ≡ ahead_of (seen self.now) side price (row_order row.now) (row_order other.now) }
     {
-        let keys = Keys {
-            price: self.line_price(price, row),
-            class: self.line_class(price, row),
-            number: row.number,
-        };
-        let other_keys = Keys {
-            price: self.line_price(price, other),
-            class: self.line_class(price, other),
-            number: other.number,
-        };
-        keys.goes_first(side, other_keys)
-    }
-
-    // The better of the best so far and one row more.
-    fn better(&self, side: Side, price: u32, best: Option<Row>, row: &Row) -> Option<Row>
-        ensures { option_map row_order result ≡ resting_step (better_of (seen self.now) side price) (option_map row_order best) row.now }
-    {
-        if !row.rests() || !self.is_partner(side, price, row) {
-            return best;
-        }
-        match best {
-            Some(other) => {
-                if self.ahead(side, price, row, &other) {
-                    Some(*row)
-                } else {
-                    best
-                }
-            }
-            None => Some(*row),
-        }
+        self.keys(price, row)
+            .goes_first(side, self.keys(price, other))
     }
 
     // The next partner of the side for a taker at the price.
     pub fn next_partner(&self, side: Side, price: u32) -> Option<Row>
         ensures { option_map row_order result ≡ next_partner_of (seen self.now) side price (orders_in self.now.rows.items) }
     {
-        let mut best = None;
-        let rows = self.rows.as_slice();
-        for row in rows {
-            best = self.better(side, price, best, row);
-        }
-        best
+        self.rows
+            .iter()
+            .filter(|row| row.rests() && self.is_partner(side, price, row))
+            .reduce(|best, row| if self.ahead(side, price, row, best) {
+                row
+            } else {
+                best
+            })
+            .copied()
     }
 
     // The next partner for a taker at the price.

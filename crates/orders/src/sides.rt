@@ -1,6 +1,6 @@
 // Both sides by one text.
 ghost use Rattle.std.specs.Prelude.{◌≡◌};
-ghost use Rattle.terms.specs.Sides.{opposite as opposite_of, same_side, meets as meets_of, outranks as outranks_of};
+ghost use Rattle.terms.specs.Sides.{opposite as opposite_of, meets as meets_of, outranks as outranks_of};
 
 use terms::kinds::Side;
 
@@ -10,15 +10,6 @@ pub(crate) fn opposite(side: Side) -> Side
     match side {
         Side::Buy => Side::Sell,
         Side::Sell => Side::Buy,
-    }
-}
-
-pub(crate) fn is_same(a: Side, b: Side) -> bool
-    ensures { result ≡ same_side a b }
-{
-    match (a, b) {
-        (Side::Buy, Side::Buy) | (Side::Sell, Side::Sell) => true,
-        (Side::Buy, Side::Sell) | (Side::Sell, Side::Buy) => false,
     }
 }
 
@@ -36,8 +27,5 @@ pub(crate) fn meets(side: Side, p: u32, q: u32) -> bool
 pub(crate) fn outranks(side: Side, p: u32, q: u32) -> bool
     ensures { result ≡ outranks_of side p q }
 {
-    match side {
-        Side::Buy => q < p,
-        Side::Sell => p < q,
-    }
+    !meets(side, q, p)
 }

@@ -5,7 +5,7 @@ ghost use Rattle.rules.specs.Limits.{last_moment};
 ghost use Rattle.rules.specs.Market.{with_orders, lower};
 ghost use Rattle.rules.specs.Sweep.{trade as trade_of, side_mark, depletes as depletes_of};
 ghost use Rattle.orders.specs.Rows.{row_order};
-ghost use Rattle.orders.specs.Seen.{market_with, seen};
+ghost use Rattle.orders.specs.Seen.{Becomes, market_with, seen};
 ghost use Rattle.orders.specs.Changes.{SameButShares};
 ghost use Rattle.orders.specs.Trading.{mark_if, protected_if};
 
@@ -15,7 +15,8 @@ use rules::{PROTECTION_PERIOD, ROUND_LOT};
 use tape::line::{Line, Mark};
 use terms::kinds::Side;
 
-fn mark_of(side: Side) -> Mark
+// The mark of a line that depletes the side. A function, since neither type is of this crate.
+pub fn mark_of(side: Side) -> Mark
     ensures { result ≡ side_mark side }
 {
     match side {
@@ -24,31 +25,24 @@ fn mark_of(side: Side) -> Mark
     }
 }
 
-fn all_three(a: bool, b: bool, c: bool) -> bool
-    ensures { result ≡ (a && (b && c)) }
-{
-    a && b && c
-}
-
 impl Table {
     // Lowers the partner of a line, and tells whether the line depletes the best displayed price of its side.
     fn lower_partner(&mut self, partner: &Row, shares: u32) -> bool
         ensures depletes { result ≡ depletes_of (seen self.old) (row_order partner.now) (lower partner.now.number shares (seen self.old).orders) }
-        ensures market { (tape : List TradeLine) → market_with tape self.new ≡ with_orders (lower partner.now.number shares (market_with tape self.old).orders) (market_with tape self.old) }
+        ensures market { Becomes self.old self.new (λ m. with_orders (lower partner.now.number shares m.orders) m) }
         ensures rows { SameButShares self.old.rows.items self.new.rows.items }
     {
         let side = partner.terms.side;
         let ranked = self.ranked(partner);
-        let best = self.is_best_displayed(side, ranked);
+        let stood_best = partner.is_displayed() && self.is_best_displayed(side, ranked);
         self.lower(partner.number, shares);
-        let few = self.displayed_shares(side, ranked) < u64::from(ROUND_LOT);
-        all_three(partner.is_displayed(), best, few)
+        stood_best && self.displayed_shares(side, ranked) < u64::from(ROUND_LOT)
     }
 
     // Where the line depletes, it is marked, and the partner's side is protected from its time on.
     fn protect_if(&mut self, depletes: bool, time: u64, side: Side) -> Mark
         ensures mark { result ≡ mark_if depletes side }
-        ensures market { time ≤ last_moment → (tape : List TradeLine) → market_with tape self.new ≡ protected_if depletes time side (market_with tape self.old) }
+        ensures market { time ≤ last_moment → Becomes self.old self.new (protected_if depletes time side) }
         ensures rows { SameButShares self.old.rows.items self.new.rows.items }
     {
         if !depletes {

@@ -3,4 +3,4 @@ pub mod Latest
 pub mod Next
 pub mod Places
 pub mod Reasons
-pub mod Turns
+pub mod Tallies

@@ -1,9 +1,11 @@
--- The scan for the next ranked: the best so far and one row more. Cite: next_none before the first row, next_turn for a turn;
--- passed_over, first, taken and kept for what becomes of the best so far; itself, not_back for what `ranks_before` is.
-use Rattle.std.proofs.Common.{◌≡◌, ℕ, ◌+◌, ◌<◌, Bool, true, false, ◌&&◌, ◌⊎◌, List, [], ◌∷◌, ◌++◌, length, get_or, take, Some, None, Option, sym, refl, ap, ◌∙◌, subst, inl, inr}
+-- The scan for the next ranked: the best so far and one row more. Cite: next_best for the scan, with later_rows and goes_before;
+-- itself, not_back for what `ranks_before` is.
+use Rattle.std.proofs.Common.{◌≡◌, Bool, true, false, ◌&&◌, ◌⊎◌, List, [], ◌∷◌, ◌++◌, Some, None, Option, sym, refl, ap, ◌∙◌, subst, inl, inr}
 use Rattle.std.proofs.ByRecursion.{All-weaker, All-push, has_push, has_append_left}
 use Rattle.std.proofs.lemmas.List.{append-nil}
 use Rattle.std.proofs.lemmas.Bool.{true≢false, and_parts, cases_Bool}
+use Rattle.std.specs.List.{filter, reduce}
+use Rattle.std.specs.Option.{option_map}
 use Rattle.terms.specs.Sides.{same_side}
 use Rattle.terms.specs.declared.kinds.Side.{Side}
 use Rattle.rules.specs.Market.{Market, Order, ranked_in}
@@ -13,9 +15,9 @@ use Rattle.rules.proofs.Keys.{first_not_itself, first_not_back, first_through}
 use Rattle.orders.specs.declared.row.Row.{Row}
 use Rattle.orders.specs.Rows.{row_order, rests, orders_in}
 use Rattle.orders.proofs.Found.{orders_in_spent}
-use Rattle.orders.proofs.Joined.{orders_in_none, orders_in_one}
+use Rattle.orders.proofs.Best.{better, best_met}
+use Rattle.orders.proofs.Joined.{orders_in_none, orders_in_one, orders_in_append}
 use Rattle.questions.specs.Ranks.{comes_after, NextRanked}
-use Rattle.questions.proofs.Turns.{orders_more}
 
 both_hold : (x y z : Bool) → x ≡ true → y ≡ true → z ≡ (x && (y && z))
 both_hold true true z p q = refl
@@ -41,10 +43,6 @@ module _ (m : Market) (s : Side) where
       is
       ∙ both_hold (rests r) (same_side r.terms.side s) (ranks_before m s a (row_order r)) both.0 both.1
       ∙ ap (λ z. rests r && comes_after m s z (row_order r)) (sym e)
-
-  pub next_none : (told : Option Order) → NextRanked m s told (orders_in []) None
-  unfolding orders_in
-  next_none told = tt
 
   module _ (told : Option Order) (os : List Order) where
     -- One order more
@@ -79,7 +77,7 @@ module _ (m : Market) (s : Side) where
       as_order : (best : Option Order) → rests r ≡ true → NextRanked m s told (os ++ (row_order r ∷ [])) best → NextRanked m s told (os ++ orders_in (r ∷ [])) best
       as_order best t h = subst (λ xs. NextRanked m s told (os ++ xs) best) (sym (orders_in_one r t)) h
 
-      pub passed_over : (best : Option Order) → false ≡ (rests r && comes_after m s told (row_order r)) → NextRanked m s told os best
+      passed_over : (best : Option Order) → false ≡ (rests r && comes_after m s told (row_order r)) → NextRanked m s told os best
           → NextRanked m s told (os ++ orders_in (r ∷ [])) best
       passed_over best f h = by (cases_Bool (rests r))
         where
@@ -91,15 +89,35 @@ module _ (m : Market) (s : Side) where
         both : (rests r ≡ true) × (comes_after m s told (row_order r) ≡ true)
         both = and_parts (rests r) (comes_after m s told (row_order r)) (sym t)
 
-        pub first : best ≡ None → NextRanked m s told (os ++ orders_in (r ∷ [])) (Some (row_order r))
+        first : best ≡ None → NextRanked m s told (os ++ orders_in (r ∷ [])) (Some (row_order r))
         first e = as_order (Some (row_order r)) both.0 (order_first (row_order r) both.1 (subst (NextRanked m s told os) e h))
 
-        pub taken : (x : Order) → best ≡ Some x → true ≡ ranks_before m s (row_order r) x → NextRanked m s told (os ++ orders_in (r ∷ [])) (Some (row_order r))
+        taken : (x : Order) → best ≡ Some x → true ≡ ranks_before m s (row_order r) x → NextRanked m s told (os ++ orders_in (r ∷ [])) (Some (row_order r))
         taken x e b = as_order (Some (row_order r)) both.0 (order_taken x (row_order r) both.1 (sym b) (subst (NextRanked m s told os) e h))
 
-        pub kept : (x : Order) → best ≡ Some x → false ≡ ranks_before m s (row_order r) x → NextRanked m s told (os ++ orders_in (r ∷ [])) (Some x)
+        kept : (x : Order) → best ≡ Some x → false ≡ ranks_before m s (row_order r) x → NextRanked m s told (os ++ orders_in (r ∷ [])) (Some x)
         kept x e f = as_order (Some x) both.0 (order_kept x (row_order r) (sym f) (subst (NextRanked m s told os) e h))
 
-  pub next_turn : (told : Option Order) (rs : List Row) (i : ℕ) (r : Row) (next : Option Order) → i < length rs → r ≡ get_or rs i r
-      → NextRanked m s told (orders_in (take i rs) ++ orders_in (r ∷ [])) next → NextRanked m s told (orders_in (take (i + 1) rs)) next
-  next_turn told rs i r next lt is h = subst (λ os. NextRanked m s told os next) (sym (orders_more rs i r lt is)) h
+  -- The whole scan
+
+  module _ (told : Option Order) where
+    abbrev pub later_rows : Row → Bool
+    later_rows r = rests r && comes_after m s told (row_order r)
+
+    abbrev pub goes_before : Row → Row → Bool
+    goes_before z a = ranks_before m s (row_order z) (row_order a)
+
+    abbrev Best : List Row → Option Row → Type 0
+    Best rs best = NextRanked m s told (orders_in rs) (option_map row_order best)
+
+    grown : (rs : List Row) (r : Row) (best : Option Row) → NextRanked m s told (orders_in rs ++ orders_in (r ∷ [])) (option_map row_order best) → Best (rs ++ (r ∷ [])) best
+    grown rs r best h = subst (λ os. NextRanked m s told os (option_map row_order best)) (sym (orders_in_append rs (r ∷ []))) h
+
+    pub next_best : (rs : List Row) → NextRanked m s told (orders_in rs) (option_map row_order (reduce (better goes_before) (filter later_rows rs)))
+    next_best rs =
+        best_met later_rows goes_before Best
+        (λ xs r best f h. grown xs r best (passed_over told (orders_in xs) r (option_map row_order best) (sym f) h))
+        (λ xs r t h. grown xs r (Some r) (first told (orders_in xs) r None (sym t) h refl))
+        (λ xs r a t u h. grown xs r (Some r) (taken told (orders_in xs) r (Some (row_order a)) (sym t) h (row_order a) refl (sym u)))
+        (λ xs r a t u h. grown xs r (Some a) (kept told (orders_in xs) r (Some (row_order a)) (sym t) h (row_order a) refl (sym u)))
+        rs (subst (λ os. NextRanked m s told os None) (sym orders_in_none) tt)

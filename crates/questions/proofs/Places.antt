@@ -138,3 +138,8 @@ module _ (m : Market) (s : Side) where
       let one = ranking_ranks m s up in
       let os = ranking_of m s m.orders in
       by_place os place told next one e le (ranked_next told os next one h) ∙ ap (λ k. at_place k os) (sym (add-one place))
+
+-- where a walk down the ranking has come to, one order at a time
+pub record Reached (m : Market) (s : Side) (place : ℕ) (told : Option Order) : Type 0 where
+  pub there : told ≡ at_place place (ranking_of m s m.orders)
+  pub within : place ≤ length (ranking_of m s m.orders)

@@ -2,15 +2,16 @@
 use Rattle.rules.specs.Market.{Order, Market, side_of, end_of}
 use Rattle.rules.specs.Questions as rule
 use Rattle.questions.specs.declared.told.Standing.{Standing}
-use Rattle.questions.specs.declared.told.Figures.{Figures}
+use Rattle.questions.specs.declared.told.Tally.{Tally}
+use Rattle.terms.specs.declared.per_side.PerSide.{PerSide}
 use Rattle.questions.specs.declared.told.Why.{Why}
 use Rattle.questions.specs.declared.told.Why.TheVariants.{NoMdo, AtLimit, AtMidpoint, Protected, Discretion}
 
 abbrev pub standing_as : Standing → rule.Standing
 standing_as s = record { number = s.number; ranked = s.ranked; reach = s.reach; left = s.left }
 
-abbrev pub figures_as : Figures → rule.Figures
-figures_as f = record { buys = f.buys; buy_shares = f.buy_shares; sells = f.sells; sell_shares = f.sell_shares }
+abbrev pub figures_as : PerSide Tally → rule.Figures
+figures_as f = record { buys = f.buy.orders; buy_shares = f.buy.shares; sells = f.sell.orders; sell_shares = f.sell.shares }
 
 abbrev pub why_as : Why → rule.Why
 why_as NoMdo = rule.no_mdo

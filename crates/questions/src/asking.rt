@@ -6,7 +6,7 @@ ghost use Rattle.rules.specs.Questions.{Answered};
 ghost use Rattle.orders.specs.Seen.{market_with};
 ghost use Rattle.questions.specs.Meant.{standing_as};
 
-use crate::ranked::ranked_at;
+use crate::ranked::Ranking;
 use crate::told::Standing;
 use orders::table::Table;
 use terms::kinds::Side;
@@ -16,8 +16,8 @@ use terms::kinds::Side;
 pub fn ask(table: &Table, code: u8, place: usize) -> Option<Standing>
     ensures { (tape : List Line) → Answered (market_with tape table.now) code place (option_map standing_as result) }
 {
-    let side = Side::from_code(code)?;
-    let row = ranked_at(table, side, place)?;
+    let side = Side::try_from(code).ok()?;
+    let row = Ranking { table, side }.at(place)?;
     Some(Standing {
         number: row.number,
         ranked: table.ranked(&row),

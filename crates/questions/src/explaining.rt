@@ -1,6 +1,7 @@
 // Why an order reaches as far as it does, and the line of the tape that protects it.
 ghost use Rattle.std.specs.Prelude.{◌≡◌, length};
-ghost use Rattle.rules.specs.Questions.{is_mark, latest_mark as latest_mark_of, why as why_of};
+ghost use Rattle.std.specs.Option.{unwrap_or};
+ghost use Rattle.rules.specs.Questions.{latest_mark as latest_mark_of, why as why_of};
 ghost use Rattle.orders.specs.Rows.{row_order};
 ghost use Rattle.orders.specs.Seen.{market_with};
 ghost use Rattle.questions.specs.Meant.{why_as, protection_of};
@@ -8,34 +9,20 @@ ghost use Rattle.questions.specs.Meant.{why_as, protection_of};
 use crate::told::Why;
 use orders::row::Row;
 use orders::table::Table;
-use tape::line::Mark;
+use orders::trading::mark_of;
 use tape::tapes::Tape;
 use terms::kinds::Side;
 
-// The mark tells that the side was depleted.
-fn marks(side: Side, mark: Mark) -> bool
-    ensures { result ≡ is_mark side mark }
-{
-    match side {
-        Side::Buy => matches!(mark, Mark::BidDepleted),
-        Side::Sell => matches!(mark, Mark::OfferDepleted),
-    }
-}
-
-// The place of the latest line with the side's mark, or 0. The search goes back from the newest line, since a period that runs
-// began with one of the last.
-fn latest_mark<T: Tape>(tape: &T, written: usize, side: Side) -> usize
+// The place of the latest line with the side's mark; the rule book tells 0 where none has it. The search goes back from the
+// newest line, since a period that runs began with one of the last.
+fn latest_mark<T: Tape>(tape: &T, written: usize, side: Side) -> Option<usize>
     ensures { written ≡ length (T.Tape.lines tape.now)
-        → result ≡ latest_mark_of side (T.Tape.lines tape.now) }
+        → unwrap_or result 0 ≡ latest_mark_of side (T.Tape.lines tape.now) }
 {
-    for place in (1..=written).rev() {
-        if let Some(line) = tape.read(place) {
-            if marks(side, line.mark) {
-                return place;
-            }
-        }
-    }
-    0
+    (1..=written).rev().find(|place| {
+        tape.read(*place)
+            .is_some_and(|line| line.mark == mark_of(side))
+    })
 }
 
 // What is told of an order with QDP that ranks neither at its limit nor at the midpoint.
@@ -45,14 +32,15 @@ fn protection<T: Tape>(table: &Table, tape: &T, written: usize, row: &Row) -> Wh
 {
     match table.end(row.terms.side) {
         Some(until) => Why::Protected {
-            line: latest_mark(tape, written, row.terms.side),
+            line: latest_mark(tape, written, row.terms.side).unwrap_or(0),
             until,
         },
         None => Why::Discretion,
     }
 }
 
-// Why the order reaches as far as it does. `written` is how many lines the tape holds.
+// Why the order reaches as far as it does. `written` is how many lines the tape holds. That it is so stands as a premise: a
+// type that held the proof would ask more of whoever calls.
 pub fn why<T: Tape>(table: &Table, tape: &T, written: usize, row: &Row) -> Why
     ensures { written ≡ length (T.Tape.lines tape.now)
         → why_as result ≡ why_of (market_with (T.Tape.lines tape.now) table.now) (row_order row.now) }

@@ -10,10 +10,7 @@ use terms::kinds::Side;
 pub(crate) fn shares_on(row: &Row, side: Side) -> u32
     ensures { result ≡ (if same_side row.now.terms.side side then row.now.left else 0) }
 {
-    match (row.terms.side, side) {
-        (Side::Buy, Side::Buy) | (Side::Sell, Side::Sell) => row.left,
-        (Side::Buy, Side::Sell) | (Side::Sell, Side::Buy) => 0,
-    }
+    if row.terms.side == side { row.left } else { 0 }
 }
 
 // The row rests, on the side.

@@ -1,4 +1,5 @@
 // What is told in answer to a question.
+use terms::per_side::PerSide;
 
 // An order at its place in rank: its entry number, the prices at which it ranks and up to which it trades, in half-cents,
 // and the shares left of it.
@@ -21,11 +22,12 @@ pub enum Why {
     Discretion,
 }
 
-// How many orders rest on each side at the close, and with how many shares.
+// The orders that rest on one side, and their shares.
 #[derive(Clone, Copy, PartialEq, Eq, Debug, Drop)]
-pub struct Figures {
-    pub buys: u64,
-    pub buy_shares: u64,
-    pub sells: u64,
-    pub sell_shares: u64,
+pub struct Tally {
+    pub orders: u64,
+    pub shares: u64,
 }
+
+// The figures at the close.
+pub type Figures = PerSide<Tally>;

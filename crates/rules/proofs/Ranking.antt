@@ -1,6 +1,6 @@
 -- Each side has exactly one ranking. That there is one: orders are placed one by one, and two entry numbers are never equal.
 -- That there is no other: of two rankings the first orders are the same, and so are the rests.
-use Rattle.std.proofs.Common.{◌≡◌, ℕ, zero, suc, ◌-◌, ◌<◌, true, false, ◌⊎◌, ◌↔◌, List, [], ◌∷◌, Some, None, Option, sym, refl, ap, ◌∙◌, subst, inl, inr, arith}
+use Rattle.std.proofs.Common.{◌≡◌, ℕ, zero, suc, ◌-◌, ◌<◌, ◌≤◌, true, false, ◌⊎◌, ◌↔◌, List, [], ◌∷◌, Some, None, Option, sym, refl, ap, ◌∙◌, subst, inl, inr, arith, SomeIff}
 use Rattle.std.proofs.ByRecursion.{All-weaker, all-has, all_has_itself}
 use Rattle.std.proofs.lemmas.Bool.{true≢false}
 use Rattle.std.specs.List.{ContainsAt as Has, AllByRecursion as Every}
@@ -176,9 +176,8 @@ one_answer bid offer room cs code place r = by_side (side_from code)
 
 -- Places
 
-pub no_index : (k : ℕ) → k ≡ 0 → ◌≡◌ {A = Option ℕ} None (index_of k)
-no_index k e = rw e
-
-pub index_before : (k : ℕ) → 0 < k → Some (k - 1) ≡ index_of k
-index_before zero l = absurd (omega arith)
-index_before (suc k) l = let e : suc k - 1 ≡ k = omega arith in cc
+pub index_told : (k : ℕ) (r : Option ℕ) → SomeIff r (1 ≤ k) (k - 1) → r ≡ index_of k
+index_told zero None h = refl
+index_told zero (Some i) h = absurd (omega (arith, h.0))
+index_told (suc k) None h = absurd (h (omega arith))
+index_told (suc k) (Some i) h = let e : i ≡ k = omega (arith, h.1) in ap Some e

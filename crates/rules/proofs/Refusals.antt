@@ -5,8 +5,8 @@ use Rattle.std.proofs.lemmas.Bool.{cases_Bool}
 use Rattle.terms.specs.declared.kinds.TimeInForce.{TimeInForce}
 use Rattle.terms.specs.declared.kinds.TimeInForce.TheVariants.{Rest, ImmediateOrCancel}
 use Rattle.rules.specs.declared.refusal.Refusal.{Refusal}
-use Rattle.rules.specs.declared.refusal.Refusal.TheVariants.{Time, Identifier, TapeShort, NameTaken, BookFull, EntriesSpent, NoSuchOrder}
-use Rattle.rules.specs.Answers.{refused, after_clock, refusal_number}
+use Rattle.rules.specs.declared.refusal.Refusal.TheVariants.{Time, Identifier, TapeShort}
+use Rattle.rules.specs.Answers.{refused, after_clock}
 use Rattle.rules.specs.Calls.{refuse, Call, done_at, entry, rested, swept_in, new_order, cancel, quote, tick, names_lawfully, timely, call, Outcome, time_of}
 use Rattle.rules.specs.Clock.{at_time}
 use Rattle.rules.specs.Examples.{id}
@@ -67,12 +67,3 @@ refusal_leaves why free c b =
     by_tests (inl e) (inr f) g = as_it_was Time refl (call_untimely free c b e f)
     by_tests (inl e) (inl f) (inr g) = as_it_was TapeShort refl (call_short free c b e f g)
     by_tests (inl e) (inl f) (inl g) = as_ticked f g (call_done free c b e f g)
-
-pub from_ten : (why : Refusal) (n : ℕ) → n ≡ refusal_number why → leb 10 n ≡ after_clock why
-from_ten Identifier n e = rw e
-from_ten Time n e = rw e
-from_ten TapeShort n e = rw e
-from_ten NameTaken n e = rw e
-from_ten BookFull n e = rw e
-from_ten EntriesSpent n e = rw e
-from_ten NoSuchOrder n e = rw e

@@ -49,7 +49,7 @@ pub fn ticks_change_only_the_clock() -> u64
 pub fn settles_at_once(earlier: u64, later: u64) -> u64
     ensures { SettlesAtOnce earlier later result }
 {
-    if later < earlier { earlier } else { later }
+    earlier.max(later)
 }
 
 // How long a side is protected after a depletion; the tape tells which orders that restrains, and why.

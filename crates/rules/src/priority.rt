@@ -1,19 +1,37 @@
 // Who goes first: the keys by which partners are chosen and a side is ranked.
 ghost use Rattle.std.specs.Prelude.{◌≡◌};
-ghost use Rattle.rules.specs.Priority.{class_of, away_class, goes_first};
+ghost use Rattle.rules.specs.Priority.{class_number, class_of, away_class, goes_first};
 ghost use Rattle.rules.specs.Questions.{index_of};
 ghost use Rattle.rules.specs.Laws.{BestPartner, OneRanking, OneAnswer};
 
 use terms::kinds::{Kind, Side};
 
+// In the order in which they trade at one price. Away: the order trades away from its ranked price.
+#[derive(Clone, Copy, PartialEq, Eq, PartialOrd, Ord, Debug, Drop)]
+pub enum Class {
+    Displayed = 1,
+    Hidden = 2,
+    Midpoint = 3,
+    Away = 4,
+}
+
+// The rule's number of a class.
+impl From<Class> for u8 {
+    ghost from_gives = { λ class number. number ≡ class_number class };
+
+    fn from(class: Class) -> u8 {
+        class as u8
+    }
+}
+
 // An order's class at its ranked price.
-pub fn class_of(kind: Kind) -> u8
-    ensures { result ≡ class_of kind }
+pub fn class_of(kind: Kind) -> Class
+    ensures { class_number result ≡ class_of kind }
 {
     match kind {
-        Kind::DisplayedLimit | Kind::DisplayedMdo => 1,
-        Kind::HiddenLimit | Kind::HiddenMdo => 2,
-        Kind::MidpointPeg => 3,
+        Kind::DisplayedLimit | Kind::DisplayedMdo => Class::Displayed,
+        Kind::HiddenLimit | Kind::HiddenMdo => Class::Hidden,
+        Kind::MidpointPeg => Class::Midpoint,
     }
 }
 
@@ -21,13 +39,13 @@ pub fn class_of(kind: Kind) -> u8
 #[derive(Clone, Copy, PartialEq, Eq, Debug, Drop)]
 pub struct Keys {
     pub price: u32,
-    pub class: u8,
+    pub class: Class,
     pub number: u32,
 }
 
 impl Keys {
     pub fn goes_first(self, side: Side, other: Keys) -> bool
-        ensures { result ≡ goes_first side self.price self.class self.number other.price other.class other.number }
+        ensures { result ≡ goes_first side self.price (class_number self.class) self.number other.price (class_number other.class) other.number }
     {
         if self.price != other.price {
             return match side {
@@ -35,19 +53,16 @@ impl Keys {
                 Side::Sell => self.price < other.price,
             };
         }
-        if self.class != other.class {
-            return self.class < other.class;
-        }
-        self.number < other.number
+        (self.class, self.number) < (other.class, other.number)
     }
 }
 
 // The class of a partner that trades away from its ranked price, the last of all. No partner goes ahead of the chosen one.
-pub fn no_partner_goes_ahead() -> u8
-    ensures class { result ≡ away_class }
+pub fn no_partner_goes_ahead() -> Class
+    ensures class { class_number result ≡ away_class }
     ensures best { BestPartner }
 {
-    4
+    Class::Away
 }
 
 // Where in the side's one ranking the order at a place stands; places begin with 1.
@@ -56,5 +71,5 @@ pub fn one_ranking(place: usize) -> Option<usize>
     ensures one { OneRanking }
     ensures answer { OneAnswer }
 {
-    if place == 0 { None } else { Some(place - 1) }
+    place.checked_sub(1)
 }

@@ -4,30 +4,23 @@ ghost use Rattle.rules.specs.Answers.{refusal_number, after_clock};
 ghost use Rattle.rules.specs.Laws.{RefusalLeaves};
 
 // In the order in which they are judged.
-#[derive(Clone, Copy, PartialEq, Eq, Debug, Drop)]
+#[derive(Clone, Copy, PartialEq, Eq, PartialOrd, Ord, Debug, Drop)]
 pub enum Refusal {
-    Identifier,
-    Time,
-    TapeShort,
-    NameTaken,
-    BookFull,
-    EntriesSpent,
-    NoSuchOrder,
+    Identifier = 7,
+    Time = 8,
+    TapeShort = 9,
+    NameTaken = 10,
+    BookFull = 11,
+    EntriesSpent = 12,
+    NoSuchOrder = 13,
 }
 
 impl Refusal {
+    // The number that members and registers know it by.
     pub fn number(self) -> u8
         ensures { result ≡ refusal_number self }
     {
-        match self {
-            Refusal::Identifier => 7,
-            Refusal::Time => 8,
-            Refusal::TapeShort => 9,
-            Refusal::NameTaken => 10,
-            Refusal::BookFull => 11,
-            Refusal::EntriesSpent => 12,
-            Refusal::NoSuchOrder => 13,
-        }
+        self as u8
     }
 
     // Whether the clock is at the call's time by then: the book is left as a tick leaves it, or else as it was.
@@ -35,6 +28,6 @@ impl Refusal {
         ensures told { result ≡ after_clock self }
         ensures leaves { RefusalLeaves self result }
     {
-        self.number() >= 10
+        self > Refusal::TapeShort
     }
 }

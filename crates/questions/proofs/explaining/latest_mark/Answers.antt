@@ -1,32 +1,26 @@
-use Rattle.std.proofs.Common.{◌≡◌, ◌≤◌, length, take, sym, ap, ◌∙◌, arith}
+use Rattle.std.proofs.Common.{◌≤◌, length, ap, ◌∙◌, arith, rules, tests}
 use Rattle.std.proofs.lemmas.List.{take_all}
+use Rattle.std.proofs.lemmas.Iterator.Search.{find_from_yields_List}
+use Rattle.std.specs.List.{find}
+use Rattle.std.specs.Option.{unwrap_or}
+use Rattle.std.specs.Range.{range_inclusive_start, range_inclusive_end, range_inclusive_exhausted}
 use Rattle.rules.specs.Questions.{latest_mark}
-use Rattle.questions.proofs.Latest.{latest_here, latest_before, line_there}
+use Rattle.questions.proofs.Latest.{down, road, from_one, as_found, marked, latest_found}
 use Rattle.questions.proofs.explaining.latest_mark.Goals as goal
-use Rattle.questions.proofs.explaining.latest_mark.Goals.{in-Some+else-marks, in_default}
-
-pub loop-place-init : goal.loop-place-init
-loop-place-init g c e =
-    let ls = g.T.Tape.lines c.args.tape.now in
-    let le : length ls ≤ c.args.written = omega arith in
-    ap (latest_mark c.args.side) (take_all c.args.written ls le)
-
-pub returns-then-marks : goal.returns-then-marks
-returns-then-marks g c e =
-    let ls = g.T.Tape.lines c.args.tape.now in
-    latest_here c.args.side ls c.loop-place.place c.in-Some.line c.in-Some.ensures c.if-marks.ensures ∙ c.loop-place.invariant e
-
-pub loop-place-preserved : goal.loop-place-preserved
-loop-place-preserved g c e =
-    let ls = g.T.Tape.lines c.args.tape.now in
-    elim c.match-read.branch [
-      | in-Some+else-marks w ↦
-          latest_before c.args.side ls c.loop-place.place w.in-Some.line w.in-Some.ensures w.if-marks.ensures ∙ c.loop-place.invariant e
-      | in_default w ↦ absurd (line_there ls c.loop-place.place c.loop-place-test.true (omega (arith, c.loop-place.auto.place)) w.in_default.ensures)
-    ]
 
 pub returns : goal.returns
 returns g c e =
     let ls = g.T.Tape.lines c.args.tape.now in
-    let first : c.loop-place.place ≡ 0 = omega (arith, c.loop-place-test.false) in
-    ap (λ k. latest_mark c.args.side (take k ls)) (sym first) ∙ c.loop-place.invariant e
+    let s = c.args.side in
+    let n = c.args.written in
+    let source = c.rev.ensures.source in
+    let start = ap range_inclusive_start source ∙ c.new.ensures.start in
+    let all = from_one c.rev.result n start (ap range_inclusive_end source ∙ c.new.ensures.end) (ap range_inclusive_exhausted source ∙ c.new.ensures.exhausted) in
+    let le : n ≤ length ls = omega (arith, e) in
+    let long : length ls ≤ n = omega (arith, e) in
+    ap (λ o. unwrap_or o 0)
+    (as_found c.find.result
+    ∙ find_from_yields_List (marked s ls) _ _ c.find.result c.find.ensures.ran (road c.rev.result start) (λ x b q called. search (rules, tests))
+    ∙ ap (λ k. find (marked s ls) (down k)) all)
+    ∙ latest_found s ls n le
+    ∙ ap (latest_mark s) (take_all n ls long)

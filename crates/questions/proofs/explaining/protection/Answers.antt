@@ -6,7 +6,7 @@ use Rattle.questions.proofs.explaining.protection.Goals as goal
 
 pub returns-in-Some : goal.returns-in-Some
 returns-in-Some g c e =
-    ap (λ n. protected n c.in-Some.until) (c.latest_mark.ensures e)
+    ap (λ n. protected n c.in-Some.until) (c.unwrap_or.ensures ∙ c.latest_mark.ensures e)
     ∙ protected_told (g.T.Tape.lines c.args.tape.now) c.args.table.now (row_order c.args.row.now) (Some c.in-Some.until) c.in-Some.ensures
 
 pub returns-in-None : goal.returns-in-None

@@ -1,16 +1,11 @@
-use Rattle.std.proofs.Common.{◌≡◌, ◌-◌, ◌≤◌, vec_items}
-use Rattle.rules.specs.Limits.{last_moment}
+use Rattle.std.proofs.Common.{◌≡◌, ◌-◌}
 use Rattle.rules.specs.Clock.{end_periods}
-use Rattle.orders.specs.Changes.{SameButShares}
-use Rattle.market.specs.Markets.{market_of, capacity_of, HasRoom}
+use Rattle.market.specs.Markets.{market_of}
+use Rattle.market.proofs.Underway.{Underway}
 use Rattle.market.proofs.state.Market.settle.Given as goal
 
 -- what is left of the settling gives the whole
-abbrev pub invariant-loop-turn : goal.invariant-loop-turn
-invariant-loop-turn g l =
-    (capacity_of g.T.Tape l.self ≡ capacity_of g.T.Tape l.initial.self)
-    × SameButShares (vec_items l.initial.self.table.rows) (vec_items l.self.table.rows)
-    × (l.time ≤ last_moment
-    → HasRoom g.T.Tape l.initial.self (end_periods l.turns l.time (market_of g.T.Tape l.initial.self))
-    → end_periods l.turns l.time (market_of g.T.Tape l.initial.self)
-    ≡ end_periods (l.turns - l.turn) l.time (market_of g.T.Tape l.self))
+abbrev pub invariant-loop : goal.invariant-loop
+invariant-loop g l =
+    let whole = end_periods l.turns l.time (market_of g.T.Tape l.initial.self) in
+    Underway g.T.Tape l.initial.self l.self l.time whole (whole ≡ end_periods (l.turns - l.counter) l.time (market_of g.T.Tape l.self))

@@ -1,5 +1,5 @@
 -- The row joins, as it can, so that the sweep finds it among the others.
-use Rattle.std.proofs.Common.{◌≡◌, ◌<◌, ◌≤◌, true, cond, ltb, [], ◌∷◌, ◌++◌, map, length, vec_items, vec_len, sym, ap, ◌∙◌, subst, arith}
+use Rattle.std.proofs.Common.{◌≡◌, ◌<◌, ◌≤◌, true, cond, is_ok, ltb, [], ◌∷◌, ◌++◌, map, length, vec_items, vec_len, sym, ap, ◌∙◌, subst, arith}
 use Rattle.std.proofs.lemmas.Bool.{lt-ltb, and_from}
 use Rattle.rules.specs.Market.{Market}
 use Rattle.rules.specs.Sweep.{sweep}
@@ -18,7 +18,7 @@ returns g c =
     let row = c.args.row in
     let rows = vec_items here.table.rows in
     let lines = t.lines here.tape in
-    let accepted : CanJoin rows row → c.join.result ≡ true = λ can.
+    let accepted : CanJoin rows row → is_ok c.join.result ≡ true = λ can.
     let room : vec_len here.table.rows < 65 = omega (arith, here.table.rows.ok.0, can.free) in
     c.join.ensures.accepted ∙ and_from (ltb (vec_len here.table.rows) 65) (ltb (newest_number 0 rows) row.number) (lt-ltb (vec_len here.table.rows) 65 room) (lt-ltb (newest_number 0 rows) row.number can.newest)
     in

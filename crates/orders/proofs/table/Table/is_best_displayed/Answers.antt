@@ -1,21 +1,22 @@
-use Rattle.std.proofs.Common.{true, fold, ap, ◌∙◌}
-use Rattle.std.proofs.lemmas.List.{take_all}
-use Rattle.rules.specs.Sweep.{best_displayed}
-use Rattle.orders.specs.Rows.{resting_step}
-use Rattle.orders.specs.Displays.{unbeaten}
+use Rattle.std.proofs.Common.{not, ◌&&◌, vec_items, ◌∙◌, rules, tests}
+use Rattle.std.proofs.lemmas.Iterator.{YieldsList-from_slice}
+use Rattle.std.proofs.lemmas.Iterator.Consumers.{YieldsList-from_filter}
+use Rattle.std.proofs.lemmas.Iterator.Search.{all_from_yields_List}
+use Rattle.terms.specs.Sides.{outranks}
+use Rattle.rules.specs.Market.{ranked_in}
+use Rattle.rules.specs.Sweep.{shows, best_displayed}
+use Rattle.orders.specs.Rows.{row_order, rests}
 use Rattle.orders.specs.Seen.{seen}
-use Rattle.orders.proofs.Folds.{scanned, scan_more}
+use Rattle.orders.proofs.Folds.{all_resting}
 use Rattle.orders.proofs.table.Table.is_best_displayed.Goals as goal
-
-pub loop-row-preserved : goal.loop-row-preserved
-loop-row-preserved c =
-    scan_more (unbeaten (seen c.args.self.now) c.args.side c.args.price) true c.as_slice-rows.result.now c.loop-row.row-index c.row-item.result _ _
-    c.loop-row-test.true c.row-item.is c.loop-row.invariant c.unbeaten_by-best.ensures
 
 pub returns : goal.returns
 unfolding best_displayed
 returns c =
-    c.loop-row.invariant
-    ∙ ap (fold (resting_step (unbeaten (seen c.args.self.now) c.args.side c.args.price)) true)
-    (take_all c.loop-row.row-index c.as_slice-rows.result.now c.loop-row-test.false ∙ c.as_slice-rows.ensures.value)
-    ∙ scanned (unbeaten (seen c.args.self.now) c.args.side c.args.price) true _
+    let rs = vec_items c.args.self.now.rows in
+    let s = c.args.side in
+    let m = seen c.args.self.now in
+    all_from_yields_List (λ r. not (shows s (row_order r) && outranks s (ranked_in m (row_order r)) c.args.price)) _ _ c.all.result c.all.ensures.ran
+    (YieldsList-from_filter _ rests (YieldsList-from_slice rs (cc)) c.filter.ensures.closure (λ x b q called. search (rules, tests)))
+    (λ x b q called. search (rules, tests))
+    ∙ all_resting (λ o. not (shows s o && outranks s (ranked_in m o) c.args.price)) rs

@@ -1,20 +1,19 @@
-use Rattle.std.proofs.Common.{None, fold, ap, ◌∙◌}
-use Rattle.std.proofs.lemmas.List.{take_all}
-use Rattle.rules.specs.Priority.{better_of, next_partner}
-use Rattle.orders.specs.Rows.{resting_step}
+use Rattle.std.proofs.Common.{vec_items, ap, ◌∙◌, rules, tests}
+use Rattle.std.proofs.lemmas.Iterator.{YieldsList-from_slice}
+use Rattle.std.proofs.lemmas.Iterator.Consumers.{YieldsList-from_filter}
+use Rattle.std.specs.Option.{option_map}
+use Rattle.rules.specs.Priority.{next_partner}
+use Rattle.orders.specs.Rows.{row_order}
 use Rattle.orders.specs.Seen.{seen}
-use Rattle.orders.proofs.Folds.{scanned, scan_more}
+use Rattle.orders.proofs.Best.{best_of, partners, goes_ahead, partner_best}
 use Rattle.orders.proofs.table.Table.next_partner.Goals as goal
-
-pub loop-row-preserved : goal.loop-row-preserved
-loop-row-preserved c =
-    scan_more (better_of (seen c.args.self.now) c.args.side c.args.price) None c.as_slice-rows.result.now c.loop-row.row-index c.row-item.result _ _
-    c.loop-row-test.true c.row-item.is c.loop-row.invariant c.better-best.ensures
 
 pub returns : goal.returns
 unfolding next_partner
 returns c =
-    c.loop-row.invariant
-    ∙ ap (fold (resting_step (better_of (seen c.args.self.now) c.args.side c.args.price)) None)
-    (take_all c.loop-row.row-index c.as_slice-rows.result.now c.loop-row-test.false ∙ c.as_slice-rows.ensures.value)
-    ∙ scanned (better_of (seen c.args.self.now) c.args.side c.args.price) None _
+    let rs = vec_items c.args.self.now.rows in
+    let s = c.args.side in
+    let m = seen c.args.self.now in
+    let best = best_of _ _ (goes_ahead m s c.args.price) (λ a z r q called. search (rules, tests)) c.filter.result c.reduce.result c.reduce.ensures.ran
+    (YieldsList-from_filter _ (partners m s c.args.price) (YieldsList-from_slice rs (cc)) c.filter.ensures.closure (λ x b q called. search (rules, tests))) in
+    ap (option_map row_order) (c.copied.ensures ∙ best) ∙ partner_best m s c.args.price rs
