@@ -2,6 +2,8 @@
 -- has_place and accepted.
 use Rattle.std.proofs.Common.{◌≡◌, ℕ, ◌<◌, ◌≤◌, Bool, true, false, not, ◌&&◌, leb, List, length, is_some, Some, None, Ok, vec_items, Option, sym, refl, ap, ◌∙◌, subst, arith}
 use Rattle.std.specs.List.{AllByRecursion as Every}
+use Rattle.std.specs.Coded.{le_prop}
+use Rattle.std.proofs.Math.Logic.{∥∥₁_elim}
 use Rattle.std.proofs.lemmas.Bool.{leb-false}
 use Rattle.terms.specs.declared.kinds.TimeInForce.{TimeInForce}
 use Rattle.terms.specs.declared.kinds.TimeInForce.TheVariants.{Rest, ImmediateOrCancel}
@@ -19,7 +21,7 @@ use Rattle.orders.specs.declared.row.Row.{Row}
 use Rattle.orders.specs.Rows.{row_order}
 use Rattle.orders.specs.Changes.{newest_number}
 use Rattle.market.specs.Markets.{capacity_of}
-use Rattle.book.specs.declared.state.Book.{Book as OpenBook}
+use Rattle.book.specs.declared.engine.Engine.{Engine}
 use Rattle.book.specs.Tied.{row_name}
 use Rattle.book.specs.Books.{book_of, Sound}
 use Rattle.book.specs.Carried.{Carried, Brought}
@@ -29,7 +31,7 @@ use Rattle.book.proofs.Calling.{tick_carried, carried_on}
 use Rattle.book.proofs.EntryTests.{name_test, entered_as, entry_passed, test_tells, newest_counted}
 
 -- the book, once the entry is counted
-abbrev pub counting : {D T : Type 0} → ℕ → OpenBook D T → OpenBook D T
+abbrev pub counting : {D T : Type 0} → ℕ → Engine D T → Engine D T
 counting k b = record { directory = b.directory; market = b.market; clock = b.clock; entries = k; room = b.room }
 
 -- what lapses leaves no trace on the tape
@@ -53,7 +55,7 @@ none_by : {A : Type 0} (o : Option A) → is_some o ≡ false → o ≡ None
 none_by None e = refl
 none_by (Some a) e = absurd (let z : ◌≡◌ {A = ℕ} 0 1 = cc in omega arith)
 
-module _ {D T : Type 0} (d : DirectoryOf D) (t : TapeOf T) (b mid : OpenBook D T) (time k : ℕ) (w : OrderTerms) (r : Row) where
+module _ {D T : Type 0} (d : DirectoryOf D) (t : TapeOf T) (b mid : Engine D T) (time k : ℕ) (w : OrderTerms) (r : Row) where
   abbrev id : List ℕ
   id = row_name r
 
@@ -67,17 +69,20 @@ module _ {D T : Type 0} (d : DirectoryOf D) (t : TapeOf T) (b mid : OpenBook D T
 
     newest_below : newest_number 0 (vec_items mid.market.table.rows) ≤ mid.entries
     newest_below =
-        let law = (numbers_ascend there.bid there.offer (capacity_of t mid.market) there.calls).1 in
+        ∥∥₁_elim there.reached le_prop (λ r.
+        let law = (numbers_ascend r.bid r.offer (capacity_of t mid.market) r.calls).1 in
         let all : Every (λ (o : Order). o.number ≤ mid.entries) here.market.orders =
-        subst (λ (z : Book). Every (λ (o : Order). o.number ≤ z.entries) z.market.orders) (sym there.reached) law
+        subst (λ (z : Book). Every (λ (o : Order). o.number ≤ z.entries) z.market.orders) (sym r.is) law
         in
         newest_counted 0 mid.entries (vec_items mid.market.table.rows) (omega arith)
-        (subst (λ (os : List Order). Every (λ (o : Order). o.number ≤ mid.entries) os) (sym brought.rests.orders) all)
+        (subst (λ (os : List Order). Every (λ (o : Order). o.number ≤ mid.entries) os) (sym brought.rests.orders) all))
 
     few_rest : length (vec_items mid.market.table.rows) < 65
     few_rest =
-        let law = orders_within_places there.bid there.offer (capacity_of t mid.market) there.calls in
-        let within : length here.market.orders ≤ most_resting = subst (λ (z : Book). length z.market.orders ≤ most_resting) (sym there.reached) law in
+        let within : length here.market.orders ≤ most_resting =
+        ∥∥₁_elim there.reached le_prop (λ r.
+        subst (λ (z : Book). length z.market.orders ≤ most_resting) (sym r.is) (orders_within_places r.bid r.offer (capacity_of t mid.market) r.calls))
+        in
         omega (arith, within, brought.rests.count)
 
     pub ready : 0 < w.shares → Ready d t (counting k mid) time r
@@ -112,7 +117,7 @@ module _ {D T : Type 0} (d : DirectoryOf D) (t : TapeOf T) (b mid : OpenBook D T
           free = omega (arith, leb-false most_resting (length here.market.orders) few, brought.tied.counted, brought.rests.count);
         }
 
-    pub accepted : (after : OpenBook D T) (v : ℕ × ℕ × ℕ) → Entered d t (counting k mid) after (rested w.time_in_force time r.number r.left (swept_in time (row_order r) here.market)) v → Carried d t b after (entry time id w) (entered v.0 v.1 v.2)
+    pub accepted : (after : Engine D T) (v : ℕ × ℕ × ℕ) → Entered d t (counting k mid) after (rested w.time_in_force time r.number r.left (swept_in time (row_order r) here.market)) v → Carried d t b after (entry time id w) (entered v.0 v.1 v.2)
     accepted after v done =
         let same : rested w.time_in_force time r.number r.left (swept_in time (row_order r) here.market) ≡ entered_as time id w here k =
         ap (λ (o : Order). rested w.time_in_force time o.number o.left (swept_in time o here.market)) own
@@ -125,7 +130,4 @@ module _ {D T : Type 0} (d : DirectoryOf D) (t : TapeOf T) (b mid : OpenBook D T
         (done.clock ∙ brought.clock ∙ sym (rested_clock w.time_in_force time k w.shares swept))
         (done.entries ∙ sym (rested_entries w.time_in_force time k w.shares swept))
         ∙ sym (ap (λ (o : Outcome). o.book) (entry_passed time id w here k test)))
-        done.tied
-        done.rests
-        done.capacity
-        done.room
+        (record { tied = done.tidied.tied; rests = done.tidied.rests; capacity = done.tidied.capacity; room = done.tidied.room })

@@ -2,6 +2,8 @@
 -- on by one call. Cite early for a refusal before the clock moves, begun_refused and begun for the start of a call, carried_on
 -- for its end.
 use Rattle.std.proofs.Common.{◌≡◌, ℕ, ◌+◌, ◌-◌, ◌≤◌, Bool, true, false, leb, List, [], ◌∷◌, ◌++◌, length, Some, None, Ok, Err, vec_items, Result, sym, refl, ap, ◌∙◌, subst, arith}
+use Rattle.std.specs.Coded.{le_prop}
+use Rattle.std.proofs.Math.Logic.{∥∥₁_map, ∥∥₁_elim}
 use Rattle.std.proofs.lemmas.Bool.{leb-true, and_parts}
 use Rattle.tape.specs.declared.tapes.Tape.{Ghosts as TapeOf}
 use Rattle.directory.specs.declared.directories.Directory.{Ghosts as DirectoryOf}
@@ -19,9 +21,9 @@ use Rattle.rules.proofs.Lasting.{call_untimely, call_short, call_done, at_time_c
 use Rattle.rules.proofs.Count.{lines_within_orders}
 use Rattle.orders.specs.Changes.{AllRest}
 use Rattle.market.specs.Markets.{market_of, capacity_of, HasRoom}
-use Rattle.book.specs.declared.state.Book.{Book as OpenBook}
-use Rattle.book.specs.Books.{book_of, BookTied, Sound}
-use Rattle.book.specs.Carried.{outcome_of, Carried, Brought, Begun, time_and_tape, tick_answer}
+use Rattle.book.specs.declared.engine.Engine.{Engine}
+use Rattle.book.specs.Books.{book_of, BookTied, Reached, Sound}
+use Rattle.book.specs.Carried.{outcome_of, Carried, Tidied, Brought, Begun, time_and_tape, tick_answer}
 
 -- what the two tests tell
 pub record Passed (free : ℕ) (c : Call) (b : Book) : Type 0 where
@@ -60,7 +62,7 @@ cancel_some t id b o e = option_some (named id b.market.orders) (refuse NoSuchOr
 
 module _ {D T : Type 0} (d : DirectoryOf D) (t : TapeOf T) where
   -- a refusal before the clock moves leaves everything as it was
-  pub early : (b : OpenBook D T) (c : Call) (why : Refusal) → outcome_of t b c ≡ refuse why (book_of t b) → Sound d t b → Carried d t b b c (refused why)
+  pub early : (b : Engine D T) (c : Call) (why : Refusal) → outcome_of t b c ≡ refuse why (book_of t b) → Sound d t b → Carried d t b b c (refused why)
   early b c why e sound =
       record {
         answer = sym (ap (λ (o : Outcome). o.answer) e);
@@ -70,67 +72,65 @@ module _ {D T : Type 0} (d : DirectoryOf D) (t : TapeOf T) where
         room = refl;
       }
 
+  -- a call writes at most as many lines as orders rest
+  lines_few : (b : Engine D T) (c : Call) → Sound d t b → length (outcome_of t b c).book.market.tape ≤ length (t.lines b.market.tape) + length (book_of t b).market.orders
+  lines_few b c sound =
+      let free = t.free b.market.tape in
+      ∥∥₁_elim sound.reached le_prop (λ r.
+      subst (λ (z : Book). length (call free c z).book.market.tape ≤ length z.market.tape + length z.market.orders) (sym r.is)
+      (lines_within_orders r.bid r.offer (capacity_of t b.market) free r.calls c))
+
   -- the lines that settling writes find room
-  settle_room : (b : OpenBook D T) (c : Call) → Sound d t b → Passed (t.free b.market.tape) c (book_of t b) → HasRoom t b.market (settle (time_of c) (market_of t b.market))
+  settle_room : (b : Engine D T) (c : Call) → Sound d t b → Passed (t.free b.market.tape) c (book_of t b) → HasRoom t b.market (settle (time_of c) (market_of t b.market))
   unfolding done_at at_time
   settle_room b c sound passed =
       let free = t.free b.market.tape in
       let done = call_done free (tick (time_of c)) (book_of t b) refl passed.time passed.room in
-      let within =
-      subst (λ (z : Book). length (call free (tick (time_of c)) z).book.market.tape ≤ length z.market.tape + length z.market.orders) (sym sound.reached)
-      (lines_within_orders sound.bid sound.offer (capacity_of t b.market) free sound.calls (tick (time_of c)))
-      in
-      omega (arith, ap (λ (o : Outcome). length o.book.market.tape) done, within, leb-true _ _ passed.room)
+      omega (arith, ap (λ (o : Outcome). length o.book.market.tape) done, lines_few b (tick (time_of c)) sound, leb-true _ _ passed.room)
 
   -- a call that is carried out, or refused once the clock is at its time
-  finished : (b after : OpenBook D T) (c : Call) (a : Answer) → Sound d t b → a ≡ (outcome_of t b c).answer → book_of t after ≡ (outcome_of t b c).book → BookTied d after → AllRest (vec_items after.market.table.rows) → capacity_of t after.market ≡ capacity_of t b.market → after.room ≡ b.room → Carried d t b after c a
+  finished : (b after : Engine D T) (c : Call) (a : Answer) → Sound d t b → a ≡ (outcome_of t b c).answer → book_of t after ≡ (outcome_of t b c).book → BookTied d after → AllRest (vec_items after.market.table.rows) → capacity_of t after.market ≡ capacity_of t b.market → after.room ≡ b.room → Carried d t b after c a
   finished b after c a sound answer book tied rests capacity same_room =
-      let free = t.free b.market.tape in
-      let room = capacity_of t b.market in
-      let before : Book = (run room sound.calls (opened sound.bid sound.offer)).book in
-      let left : free ≡ room - length before.market.tape = omega (arith, ap (λ (z : Book). length z.market.tape) sound.reached) in
       record {
         answer = answer;
         book = book;
-        sound =
-            record {
-              tied = tied;
-              rests = rests;
-              bid = sound.bid;
-              offer = sound.offer;
-              calls = sound.calls ++ (c ∷ []);
-              reached =
-                  book
-                  ∙ ap (λ (z : Book). (call free c z).book) sound.reached
-                  ∙ ap (λ n. (call n c before).book) left
-                  ∙ sym (ap (λ (r : Run). r.book) (run_push room sound.calls c (opened sound.bid sound.offer)))
-                  ∙ ap (λ n. (run n (sound.calls ++ (c ∷ [])) (opened sound.bid sound.offer)).book) (sym capacity);
-            };
+        sound = record { tied = tied; rests = rests; reached = ∥∥₁_map sound.reached further };
         capacity = capacity;
         room = same_room;
       }
+    where
+      further : Reached t b → Reached t after
+      further r =
+          let free = t.free b.market.tape in
+          let room = capacity_of t b.market in
+          let before : Book = (run room r.calls (opened r.bid r.offer)).book in
+          let left : free ≡ room - length before.market.tape = omega (arith, ap (λ (z : Book). length z.market.tape) r.is) in
+          record {
+            bid = r.bid;
+            offer = r.offer;
+            calls = r.calls ++ (c ∷ []);
+            is =
+                book
+                ∙ ap (λ (z : Book). (call free c z).book) r.is
+                ∙ ap (λ n. (call n c before).book) left
+                ∙ sym (ap (λ (z : Run). z.book) (run_push room r.calls c (opened r.bid r.offer)))
+                ∙ ap (λ n. (run n (r.calls ++ (c ∷ [])) (opened r.bid r.offer)).book) (sym capacity);
+          }
 
   -- so do all the lines of the call
-  call_room : (b : OpenBook D T) (c : Call) → Sound d t b → Passed (t.free b.market.tape) c (book_of t b) → HasRoom t b.market (outcome_of t b c).book.market
-  call_room b c sound passed =
-      let free = t.free b.market.tape in
-      let within =
-      subst (λ (z : Book). length (call free c z).book.market.tape ≤ length z.market.tape + length z.market.orders) (sym sound.reached)
-      (lines_within_orders sound.bid sound.offer (capacity_of t b.market) free sound.calls c)
-      in
-      omega (arith, within, leb-true _ _ passed.room)
+  call_room : (b : Engine D T) (c : Call) → Sound d t b → Passed (t.free b.market.tape) c (book_of t b) → HasRoom t b.market (outcome_of t b c).book.market
+  call_room b c sound passed = omega (arith, lines_few b c sound, leb-true _ _ passed.room)
 
-  pub begun_refused : (b : OpenBook D T) (time : ℕ) (why : Refusal) → Err why ≡ time_and_tape (t.free b.market.tape) time (book_of t b) → Sound d t b → Begun d t b b time (Err why)
+  pub begun_refused : (b : Engine D T) (time : ℕ) (why : Refusal) → Err why ≡ time_and_tape (t.free b.market.tape) time (book_of t b) → Sound d t b → Begun d t b b time (Err why)
   begun_refused b time why e sound c at lawful =
       let free = t.free b.market.tape in
       early b c why (judged free c (book_of t b) (Err why) (e ∙ ap (λ n. time_and_tape free n (book_of t b)) (sym at)) lawful) sound
 
   -- the clock comes to the time, if the tests pass
-  pub begun : (b after : OpenBook D T) (time : ℕ) → Ok tt ≡ time_and_tape (t.free b.market.tape) time (book_of t b) → Sound d t b
+  pub begun : (b after : Engine D T) (time : ℕ) → Ok tt ≡ time_and_tape (t.free b.market.tape) time (book_of t b) → Sound d t b
       → (time ≤ last_moment → HasRoom t b.market (settle time (market_of t b.market)) → book_of t after ≡ at_time time (book_of t b))
-      → (BookTied d b → BookTied d after) → AllRest (vec_items after.market.table.rows) → capacity_of t after.market ≡ capacity_of t b.market → after.room ≡ b.room
-      → Brought d t b after time
-  begun b after time e sound brings tied rests capacity room =
+      → Tidied d t b after → Brought d t b after time
+  begun b after time e sound brings tidied =
       let free = t.free b.market.tape in
       let passed = judged free (tick time) (book_of t b) (Ok tt) e in
       let day = leb-true time last_moment (and_parts (leb b.clock time) (leb time last_moment) passed.time).1 in
@@ -148,36 +148,39 @@ module _ {D T : Type 0} (d : DirectoryOf D) (t : TapeOf T) where
         clock = ap (λ (z : Book). z.clock) there ∙ at_time_clock time (book_of t b);
         done = done;
         lines = λ c at lawful.
-            subst (λ n. length (done_at c (book_of t after)).book.market.tape ≤ n) (sym capacity)
+            subst (λ n. length (done_at c (book_of t after)).book.market.tape ≤ n) (sym tidied.capacity)
             (subst (λ (o : Outcome). length o.book.market.tape ≤ capacity_of t b.market) (done c at lawful) (call_room b c sound (ready c at)));
-        tied = tied sound.tied;
-        rests = rests;
-        capacity = capacity;
-        room = room;
+        tied = tidied.tied sound.tied;
+        rests = tidied.rests;
+        capacity = tidied.capacity;
+        room = tidied.room;
       }
 
   -- what the rule book does once the clock is at the time is done
-  pub carried_on : (b mid after : OpenBook D T) (c : Call) (a : Answer) → Sound d t b → Brought d t b mid (time_of c) → names_lawfully c ≡ true
+  pub carried_on : (b mid after : Engine D T) (c : Call) (a : Answer) → Sound d t b → Brought d t b mid (time_of c) → names_lawfully c ≡ true
       → a ≡ (done_at c (book_of t mid)).answer → book_of t after ≡ (done_at c (book_of t mid)).book
-      → BookTied d after → AllRest (vec_items after.market.table.rows) → capacity_of t after.market ≡ capacity_of t mid.market → after.room ≡ mid.room
-      → Carried d t b after c a
-  carried_on b mid after c a sound brought lawful answer book tied rests capacity room =
+      → Tidied d t mid after → Carried d t b after c a
+  carried_on b mid after c a sound brought lawful answer book tidied =
       let so = brought.done c refl lawful in
       finished b after c a sound
       (answer ∙ sym (ap (λ (o : Outcome). o.answer) so))
       (book ∙ sym (ap (λ (o : Outcome). o.book) so))
-      tied
-      rests
-      (capacity ∙ brought.capacity)
-      (room ∙ brought.room)
+      (tidied.tied brought.tied)
+      tidied.rests
+      (tidied.capacity ∙ brought.capacity)
+      (tidied.room ∙ brought.room)
+
+  -- nothing is done once the clock is at the time
+  idle : {b mid : Engine D T} {time : ℕ} → Brought d t b mid time → Tidied d t mid mid
+  idle brought = record { tied = λ h. h; rests = brought.rests; capacity = refl; room = refl }
 
   -- a refusal once the clock is at the time leaves the book as it is then
-  pub declined : (b mid : OpenBook D T) (c : Call) (why : Refusal) → Sound d t b → Brought d t b mid (time_of c) → names_lawfully c ≡ true
+  pub declined : (b mid : Engine D T) (c : Call) (why : Refusal) → Sound d t b → Brought d t b mid (time_of c) → names_lawfully c ≡ true
       → done_at c (book_of t mid) ≡ refuse why (book_of t mid) → Carried d t b mid c (refused why)
   declined b mid c why sound brought lawful e =
-      carried_on b mid mid c (refused why) sound brought lawful (sym (ap (λ (o : Outcome). o.answer) e)) (sym (ap (λ (o : Outcome). o.book) e)) brought.tied brought.rests refl refl
+      carried_on b mid mid c (refused why) sound brought lawful (sym (ap (λ (o : Outcome). o.answer) e)) (sym (ap (λ (o : Outcome). o.book) e)) (idle brought)
 
-  pub tick_carried : (b after : OpenBook D T) (time : ℕ) (r : Result (Unit {0}) Refusal) → Sound d t b → Begun d t b after time r → Carried d t b after (tick time) (tick_answer r)
+  pub tick_carried : (b after : Engine D T) (time : ℕ) (r : Result (Unit {0}) Refusal) → Sound d t b → Begun d t b after time r → Carried d t b after (tick time) (tick_answer r)
   unfolding done_at
-  tick_carried b after time (Ok u) sound brought = carried_on b after after (tick time) ticked sound brought refl refl refl brought.tied brought.rests refl refl
+  tick_carried b after time (Ok u) sound brought = carried_on b after after (tick time) ticked sound brought refl refl refl (idle brought)
   tick_carried b after time (Err why) sound refuses = refuses (tick time) refl refl

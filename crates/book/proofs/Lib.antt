@@ -7,5 +7,4 @@ pub mod Joined
 pub mod Kept
 pub mod Named
 pub mod Opened
-pub mod Standing
 pub mod Ties

@@ -1,5 +1,5 @@
--- A book on an emptied directory, an empty table and an empty tape is sound: it is what no call at all leaves. Cite empty_tape
--- and new_book.
+-- A book on an emptied directory, an empty table and an empty tape is sound: it is what no call at all leaves. Cite empty_tape,
+-- new_book and new_sound.
 use Rattle.std.proofs.Common.{◌≡◌, ℕ, ◌+◌, false, List, [], ◌∷◌, length, is_some, vec_items, Option, sym, refl, ap, ◌∙◌, subst, arith}
 use Rattle.roll.specs.Rolls.{at_place}
 use Rattle.tape.specs.declared.line.Line.{Line}
@@ -13,9 +13,9 @@ use Rattle.orders.specs.declared.row.Row.{Row}
 use Rattle.orders.specs.Changes.{AllRest}
 use Rattle.orders.specs.Seen.{market_with, seen}
 use Rattle.orders.proofs.Retired.{rests_none}
-use Rattle.book.specs.declared.state.Book.{Book as OpenBook}
+use Rattle.book.specs.declared.engine.Engine.{Engine}
 use Rattle.book.specs.Tied.{Tied, number_named}
-use Rattle.book.specs.Books.{book_of}
+use Rattle.book.specs.Books.{book_of, Sound}
 use Rattle.book.specs.Opening.{New}
 use Rattle.book.proofs.Alike.{same_book}
 
@@ -32,23 +32,25 @@ unfolding run
 nothing_run room b = refl
 
 module _ {D T : Type 0} (d : DirectoryOf D) (t : TapeOf T) (directory : D) (tape : T) (table : Table) (room bid offer : ℕ) where
-  abbrev fresh : OpenBook D T
+  abbrev fresh : Engine D T
   fresh = record { directory = directory; market = record { table = table; tape = tape }; clock = 0; entries = 0; room = room }
 
-  pub new_book : t.lines tape ≡ [] → Emptied (d.number directory) (d.count directory) → vec_items table.rows ≡ [] → seen table ≡ (opened bid offer).market → room ≡ t.free tape → New d t bid offer tape fresh
-  new_book empty emptied no_rows market free =
-      let book : book_of t fresh ≡ opened bid offer = same_book (ap (λ ls. market_with ls table) empty ∙ market) refl refl in
-      record {
-        book = book;
-        own_tape = refl;
-        sound =
-            record {
-              tied = subst (λ (rs : List Row). Tied (d.number directory) (d.count directory) rs) (sym no_rows) (tied_none (d.number directory) (d.count directory) emptied);
-              rests = subst (λ (rs : List Row). AllRest rs) (sym no_rows) rests_none;
-              bid = bid;
-              offer = offer;
-              calls = [];
-              reached = book ∙ sym (nothing_run (length (t.lines tape) + t.free tape) (opened bid offer));
-            };
-        room = omega (arith, free, ap length empty);
-      }
+  module _ (empty : t.lines tape ≡ []) (market : seen table ≡ (opened bid offer).market) where
+    as_opened : book_of t fresh ≡ opened bid offer
+    as_opened = same_book (ap (λ ls. market_with ls table) empty ∙ market) refl refl
+
+    pub new_book : New t bid offer tape fresh
+    new_book = record { book = as_opened; own_tape = refl }
+
+    pub new_sound : Emptied (d.number directory) (d.count directory) → vec_items table.rows ≡ [] → Sound d t fresh
+    new_sound emptied no_rows =
+        record {
+          tied = subst (λ (rs : List Row). Tied (d.number directory) (d.count directory) rs) (sym no_rows) (tied_none (d.number directory) (d.count directory) emptied);
+          rests = subst (λ (rs : List Row). AllRest rs) (sym no_rows) rests_none;
+          reached = ∣ record {
+            bid = bid;
+            offer = offer;
+            calls = [];
+            is = as_opened ∙ sym (nothing_run (length (t.lines tape) + t.free tape) (opened bid offer));
+          } ∣₁;
+        }

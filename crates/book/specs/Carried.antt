@@ -10,15 +10,15 @@ use Rattle.rules.specs.Answers.{Answer, entered, cancelled, quoted, ticked, refu
 use Rattle.rules.specs.Calls.{Call, Outcome, call, done_at, time_of, names_lawfully}
 use Rattle.orders.specs.Changes.{AllRest}
 use Rattle.market.specs.Markets.{capacity_of, HasRoom}
-use Rattle.book.specs.declared.state.Book.{Book as OpenBook}
+use Rattle.book.specs.declared.engine.Engine.{Engine}
 use Rattle.book.specs.declared.refusals.Rejected.{Rejected}
 use Rattle.book.specs.Books.{book_of, BookTied, Sound}
 
 -- what the rule book makes of a call, with the lines that are free on the tape
-abbrev pub outcome_of : {D T : Type 0} → TapeOf T → OpenBook D T → Call → Outcome
+abbrev pub outcome_of : {D T : Type 0} → TapeOf T → Engine D T → Call → Outcome
 outcome_of t b c = call (t.free b.market.tape) c (book_of t b)
 
-pub record Carried {D T : Type 0} (d : DirectoryOf D) (t : TapeOf T) (before after : OpenBook D T) (c : Call) (a : Answer) : Type 0 where
+pub record Carried {D T : Type 0} (d : DirectoryOf D) (t : TapeOf T) (before after : Engine D T) (c : Call) (a : Answer) : Type 0 where
   pub answer : a ≡ (outcome_of t before c).answer
   pub book : book_of t after ≡ (outcome_of t before c).book
   pub sound : Sound d t after
@@ -33,8 +33,15 @@ time_and_tape free time b =
       | true ↦ elim (nat_le (length b.market.orders) free) [ false ↦ Err TapeShort | true ↦ Ok tt ]
     ]
 
+-- a step of a call: the directory is still tied to the rows, every row rests, and the book has the places on its tape that it had
+pub record Tidied {D T : Type 0} (d : DirectoryOf D) (t : TapeOf T) (before after : Engine D T) : Type 0 where
+  pub tied : BookTied d before → BookTied d after
+  pub rests : AllRest (vec_items after.market.table.rows)
+  pub capacity : capacity_of t after.market ≡ capacity_of t before.market
+  pub room : after.room ≡ before.room
+
 -- the clock has come to a call's time: what is left to do is what the rule book does from there, and its lines find room
-pub record Brought {D T : Type 0} (d : DirectoryOf D) (t : TapeOf T) (before after : OpenBook D T) (time : ℕ) : Type 0 where
+pub record Brought {D T : Type 0} (d : DirectoryOf D) (t : TapeOf T) (before after : Engine D T) (time : ℕ) : Type 0 where
   pub day : time ≤ last_moment
   pub clock : after.clock ≡ time
   pub done : (c : Call) → time_of c ≡ time → names_lawfully c ≡ true → outcome_of t before c ≡ done_at c (book_of t after)
@@ -45,7 +52,7 @@ pub record Brought {D T : Type 0} (d : DirectoryOf D) (t : TapeOf T) (before aft
   pub room : after.room ≡ before.room
 
 -- the start of every call at a time: it is refused, or the clock comes to the time
-abbrev pub Begun : {D T : Type 0} → DirectoryOf D → TapeOf T → OpenBook D T → OpenBook D T → ℕ → Result (Unit {0}) Refusal → Type 0
+abbrev pub Begun : {D T : Type 0} → DirectoryOf D → TapeOf T → Engine D T → Engine D T → ℕ → Result (Unit {0}) Refusal → Type 0
 Begun d t before after time (Ok u) = Brought d t before after time
 Begun d t before after time (Err why) = (c : Call) → time_of c ≡ time → names_lawfully c ≡ true → Carried d t before after c (refused why)
 

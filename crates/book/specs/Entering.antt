@@ -13,10 +13,11 @@ use Rattle.rules.specs.Calls.{Outcome, named, no_place, swept_in}
 use Rattle.orders.specs.declared.row.Row.{Row}
 use Rattle.orders.specs.Rows.{row_order}
 use Rattle.orders.specs.Changes.{AllRest}
-use Rattle.market.specs.Markets.{market_of, capacity_of, HasRoom, CanJoin}
-use Rattle.book.specs.declared.state.Book.{Book as OpenBook}
+use Rattle.market.specs.Markets.{market_of, HasRoom, CanJoin}
+use Rattle.book.specs.declared.engine.Engine.{Engine}
 use Rattle.book.specs.Tied.{row_name}
 use Rattle.book.specs.Books.{BookTied}
+use Rattle.book.specs.Carried.{Tidied}
 
 -- the entry number n, unless the name is taken, the book is full or the entries are spent
 abbrev pub numbered_unless : Bool → Bool → Bool → ℕ → Result ℕ Refusal
@@ -31,7 +32,7 @@ entry_test id w b =
     numbered_unless (is_some (named id b.market.orders)) (no_place w b.market) (nat_le most_entries b.entries) (b.entries + 1)
 
 -- the book is ready for the new row
-pub record Ready {D T : Type 0} (d : DirectoryOf D) (t : TapeOf T) (b : OpenBook D T) (time : ℕ) (r : Row) : Type 0 where
+pub record Ready {D T : Type 0} (d : DirectoryOf D) (t : TapeOf T) (b : Engine D T) (time : ℕ) (r : Row) : Type 0 where
   pub day : time ≤ last_moment
   pub tied : BookTied d b
   pub rests : AllRest (vec_items b.market.table.rows)
@@ -39,18 +40,15 @@ pub record Ready {D T : Type 0} (d : DirectoryOf D) (t : TapeOf T) (b : OpenBook
   pub lines : HasRoom t b.market (swept_in time (row_order r) (market_of t b.market))
 
 -- the directory takes the new row's pair
-pub record HasPlace {D T : Type 0} (d : DirectoryOf D) (b : OpenBook D T) (r : Row) : Type 0 where
+pub record HasPlace {D T : Type 0} (d : DirectoryOf D) (b : Engine D T) (r : Row) : Type 0 where
   pub lawful : lawful_identifier (row_name r) ≡ true
   pub fresh : d.number b.directory (row_name r) ≡ None
   pub free : d.count b.directory < 64
 
 -- the order is entered: entry number, shares traded, shares lapsed, and the market as the rule book leaves it
-pub record Entered {D T : Type 0} (d : DirectoryOf D) (t : TapeOf T) (before after : OpenBook D T) (o : Outcome) (v : ℕ × ℕ × ℕ) : Type 0 where
+pub record Entered {D T : Type 0} (d : DirectoryOf D) (t : TapeOf T) (before after : Engine D T) (o : Outcome) (v : ℕ × ℕ × ℕ) : Type 0 where
   pub answer : entered v.0 v.1 v.2 ≡ o.answer
   pub market : market_of t after.market ≡ o.book.market
-  pub tied : BookTied d after
-  pub rests : AllRest (vec_items after.market.table.rows)
-  pub capacity : capacity_of t after.market ≡ capacity_of t before.market
+  pub tidied : Tidied d t before after
   pub clock : after.clock ≡ before.clock
   pub entries : after.entries ≡ before.entries
-  pub room : after.room ≡ before.room

@@ -2,5 +2,6 @@ pub mod Books
 pub mod Carried
 pub mod Entering
 pub mod Explaining
+pub mod Once
 pub mod Opening
 pub mod Tied

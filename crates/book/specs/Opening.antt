@@ -1,20 +1,17 @@
 -- A new book, and why there is none.
 use Rattle.std.specs.Prelude.{◌≡◌, ℕ, []}
 use Rattle.tape.specs.declared.tapes.Tape.{Ghosts as TapeOf}
-use Rattle.directory.specs.declared.directories.Directory.{Ghosts as DirectoryOf}
 use Rattle.rules.specs.Runs.{opened}
-use Rattle.book.specs.declared.state.Book.{Book as OpenBook}
+use Rattle.book.specs.declared.engine.Engine.{Engine}
 use Rattle.book.specs.declared.refusals.OpenRefusal.{OpenRefusal}
 use Rattle.book.specs.declared.refusals.OpenRefusal.TheVariants.{TapeUsed, NoMemory}
 use Rattle.book.specs.declared.refusals.NotOpened.{NotOpened}
-use Rattle.book.specs.Books.{book_of, Sound, KnowsRoom}
+use Rattle.book.specs.Books.{book_of}
 
 -- a book on an empty tape, as the rule book opens it
-pub record New {D T : Type 0} (d : DirectoryOf D) (t : TapeOf T) (bid offer : ℕ) (tape : T) (b : OpenBook D T) : Type 0 where
+pub record New {D T : Type 0} (t : TapeOf T) (bid offer : ℕ) (tape : T) (b : Engine D T) : Type 0 where
   pub book : book_of t b ≡ opened bid offer
   pub own_tape : b.market.tape ≡ tape
-  pub sound : Sound d t b
-  pub room : KnowsRoom t b
 
 -- a used tape is refused before memory is asked for
 abbrev pub Because : {T : Type 0} → TapeOf T → T → OpenRefusal → Type 0

@@ -1,13 +1,13 @@
 // Questions, which alter nothing.
-ghost use Rattle.std.specs.Prelude.{◌≡◌, None, MatchOption};
-ghost use Rattle.std.specs.List.{slice_get};
+ghost use Rattle.std.specs.Prelude.{◌≡◌, length, map, None, MatchOption};
 ghost use Rattle.std.specs.Option.{option_map};
 ghost use Rattle.roll.specs.Rolls.{at_place};
 ghost use Rattle.rules.specs.Questions.{Answered};
 ghost use Rattle.rules.specs.Calls.{named};
+ghost use Rattle.rules.specs.Laws.{DiscretionExplained};
 ghost use Rattle.orders.specs.Rows.{row_order};
 ghost use Rattle.questions.specs.Meant.{standing_as};
-ghost use Rattle.book.specs.Books.{book_of, Sound, KnowsRoom};
+ghost use Rattle.book.specs.Books.{book_of};
 ghost use Rattle.book.specs.Explaining.{Explained};
 
 use crate::explanation::Explanation;
@@ -23,42 +23,51 @@ use tape::tapes::Tape;
 impl<D: Directory, T: Tape> Book<D, T> {
     // What stands on a side, told by its code, at a place in rank, from 1.
     pub fn ask(&self, side: u8, place: usize) -> Option<Standing>
-        ensures { Answered (book_of T.Tape self.now).market side place (option_map standing_as result) }
+        ensures { Answered (book_of T.Tape self.now.engine).market side place (option_map standing_as result) }
     {
-        ask(&self.market.table, side, place)
+        ask(&self.engine.market.table, side, place)
     }
 
     // Why the resting order that the identifier names reaches as far as it does.
     pub fn why(&self, id: &[u8]) -> Option<Explanation>
-        ensures { Sound D.Directory T.Tape self.now → KnowsRoom T.Tape self.now → MatchOption result
-            (named id.now (book_of T.Tape self.now).market.orders ≡ None)
-            (λ e. Explained (book_of T.Tape self.now) id.now e) }
+        ensures { MatchOption result
+            (named id.now (book_of T.Tape self.now.engine).market.orders ≡ None)
+            (λ e. Explained (book_of T.Tape self.now.engine) id.now e) }
     {
-        let Some(number) = self.directory.find(id) else {
-            return None;
-        };
-        let Some(row) = self.market.table.row(number) else {
-            return None;
-        };
-        let written = self.room.saturating_sub(self.market.tape.free_lines());
+        let engine = &self.engine;
+        let table = &engine.market.table;
+        let tape = &engine.market.tape;
+        let number = engine.directory.find(id)?;
+        let row = table.row(number)?;
+        let written = self.lines();
         Some(Explanation {
-            ranked: self.market.table.ranked(&row),
-            reach: self.market.table.reach(&row),
-            why: why(&self.market.table, &self.market.tape, written, &row),
+            ranked: table.ranked(&row),
+            reach: table.reach(&row),
+            why: why(table, tape, written, &row),
         })
     }
 
-    // The order that rests at an index, lowest entry number first.
-    pub fn resting_order(&self, index: usize) -> Option<Row>
-        ensures { Sound D.Directory T.Tape self.now → option_map row_order result ≡ slice_get (book_of T.Tape self.now).market.orders index }
+    // The rows of the orders that rest, lowest entry number first. The tape explains how far each of them reaches.
+    #[tactic(auto, using(crate::proofs::Explains::discretion_explained))]
+    pub fn resting_orders(&self) -> &[Row]
+        ensures rows { map row_order result.now ≡ (book_of T.Tape self.now.engine).market.orders }
+        ensures explained { DiscretionExplained (book_of T.Tape self.now.engine) }
     {
-        self.market.table.row_at(index)
+        self.engine.market.table.rows()
+    }
+
+    // How many lines stand on the tape.
+    pub fn lines(&self) -> usize
+        ensures { result ≡ length (book_of T.Tape self.now.engine).market.tape }
+    {
+        let free = self.engine.market.tape.free_lines();
+        self.engine.room.saturating_sub(free)
     }
 
     // The line at a place of the tape, the oldest at 1.
     pub fn line(&self, place: usize) -> Option<Line>
-        ensures { result ≡ at_place (book_of T.Tape self.now).market.tape place }
+        ensures { result ≡ at_place (book_of T.Tape self.now.engine).market.tape place }
     {
-        self.market.tape.read(place)
+        self.engine.market.tape.read(place)
     }
 }

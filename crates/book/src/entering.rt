@@ -1,8 +1,9 @@
 // An entry: the tests, then the new order's row joins, is swept, and rests or lapses.
-ghost use Rattle.std.specs.Prelude.{◌≡◌, true, false, MatchOption};
+ghost use Rattle.std.specs.Prelude.{◌≡◌, true, false, MatchResult};
 ghost use Rattle.terms.specs.Identifiers.{lawful_identifier};
 ghost use Rattle.terms.specs.Made.{terms_of};
 ghost use Rattle.terms.specs.declared.kinds.TimeInForce.TheVariants.{Rest, ImmediateOrCancel};
+ghost use Rattle.rules.specs.declared.refusal.Refusal.TheVariants.{Identifier as RefusedIdentifier};
 ghost use Rattle.rules.specs.Calls.{no_place, rested, swept_in};
 ghost use Rattle.orders.specs.Rows.{row_order, identifier_bytes};
 ghost use Rattle.orders.specs.Changes.{AllRest};
@@ -10,7 +11,7 @@ ghost use Rattle.market.specs.Markets.{market_of};
 ghost use Rattle.book.specs.Books.{book_of, BookTied};
 ghost use Rattle.book.specs.Entering.{entry_test, Ready, HasPlace, Entered};
 
-use crate::state::Book;
+use crate::engine::Engine;
 use directory::directories::Directory;
 use directory::identifiers::lawful_identifier;
 use orders::identifier::Identifier;
@@ -22,23 +23,24 @@ use terms::kinds::TimeInForce;
 use terms::lawful::Terms;
 
 // The identifier, kept by value, if it is lawful.
-pub(crate) fn kept_identifier(id: &[u8]) -> Option<Identifier>
-    ensures { MatchOption result (lawful_identifier id.now ≡ false) (λ i. (lawful_identifier id.now ≡ true) × (identifier_bytes i ≡ id.now)) }
+pub(crate) fn kept_identifier(id: &[u8]) -> Result<Identifier, Refusal>
+    ensures { MatchResult result
+        (λ i. (lawful_identifier id.now ≡ true) × (identifier_bytes i ≡ id.now))
+        (λ why. (lawful_identifier id.now ≡ false) × (why ≡ RefusedIdentifier)) }
 {
-    if lawful_identifier(id) {
-        Identifier::new(id)
-    } else {
-        None
+    if !lawful_identifier(id) {
+        return Err(Refusal::Identifier);
     }
+    Identifier::new(id).ok_or(Refusal::Identifier)
 }
 
-impl<D: Directory, T: Tape> Book<D, T> {
+impl<D: Directory, T: Tape> Engine<D, T> {
     // In a full book only an IOC order may be entered, since it never rests.
     fn has_no_place(&self, terms: Terms) -> bool
         ensures { result ≡ no_place (terms_of terms) (market_of T.Tape self.now.market) }
     {
         let resting = self.market.table.len_resting();
-        resting >= MOST_RESTING && matches!(terms.time_in_force, TimeInForce::Rest)
+        resting >= MOST_RESTING && terms.time_in_force == TimeInForce::Rest
     }
 
     // The entry number that the order gets; the refusals are those that come once the clock is at the entry's time.

@@ -5,6 +5,7 @@ ghost use Rattle.rules.specs.Calls.{entry as entry_of};
 ghost use Rattle.book.specs.Books.{Sound};
 ghost use Rattle.book.specs.Carried.{Carried, entry_answer, entry_told};
 
+use crate::engine::Engine;
 use crate::entering::kept_identifier;
 use crate::refusals::Rejected;
 use crate::state::Book;
@@ -15,8 +16,8 @@ use tape::tapes::Tape;
 use terms::kinds::TimeInForce;
 use terms::lawful::{Terms, Ticket};
 
-impl<D: Directory, T: Tape> Book<D, T> {
-    // Entry number, shares traded and shares lapsed of the order that the terms make.
+impl<D: Directory, T: Tape> Engine<D, T> {
+    // Entry number, shares traded and shares lapsed of the order that the terms make, in the tuple asked for.
     pub(crate) fn enter_terms(
         &mut self,
         time: u64,
@@ -25,9 +26,7 @@ impl<D: Directory, T: Tape> Book<D, T> {
     ) -> Result<(u32, u32, u32), Refusal>
         ensures { Sound D.Directory T.Tape self.old → Carried D.Directory T.Tape self.old self.new (entry_of time id.now (terms_of terms)) (entry_answer result) }
     {
-        let Some(identifier) = kept_identifier(id) else {
-            return Err(Refusal::Identifier);
-        };
+        let identifier = kept_identifier(id)?;
         self.advance(time)?;
         let number = self.admit(id, terms)?;
         self.entries = number;
@@ -42,20 +41,22 @@ impl<D: Directory, T: Tape> Book<D, T> {
             TimeInForce::ImmediateOrCancel => self.sweep_and_lapse(time, row),
         })
     }
+}
 
-    // A ticket is moved in: it is spent, or handed back with the refusal.
+impl<D: Directory, T: Tape> Book<D, T> {
+    // A ticket is moved in: it is spent, or handed back with the refusal. The tuple is the form asked for: entry number, shares
+    // traded, shares lapsed.
     pub fn enter(
         &mut self,
         time: u64,
         id: &[u8],
         ticket: Ticket,
     ) -> Result<(u32, u32, u32), Rejected>
-        ensures carried { Sound D.Directory T.Tape self.old → Carried D.Directory T.Tape self.old self.new (entry_of time id.now (terms_of ticket.terms)) (entry_told result) }
+        ensures carried { Carried D.Directory T.Tape self.old.engine self.new.engine (entry_of time id.now (terms_of ticket.terms)) (entry_told result) }
         ensures handed_back { IfErr result (λ e. e.ticket ≡ ticket) }
     {
-        match self.enter_terms(time, id, ticket.terms()) {
-            Ok(answer) => Ok(answer),
-            Err(why) => Err(Rejected { ticket, why }),
-        }
+        let terms = ticket.terms();
+        let entered = self.engine.enter_terms(time, id, terms);
+        entered.map_err(|why| Rejected { ticket, why })
     }
 }

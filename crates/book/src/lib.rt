@@ -5,6 +5,7 @@ pub mod asking;
 pub mod cancelling;
 mod clock;
 pub mod closing;
+mod engine;
 mod entering;
 pub mod entries;
 pub mod explanation;

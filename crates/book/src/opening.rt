@@ -1,7 +1,10 @@
 // A new book.
-ghost use Rattle.std.specs.Prelude.{◌≡◌, MatchResult};
-ghost use Rattle.book.specs.Opening.{New, HandedBack};
+ghost use Rattle.std.specs.Prelude.{◌≡◌, [], MatchResult};
+ghost use Rattle.rules.specs.Runs.{opened};
+ghost use Rattle.orders.specs.Seen.{seen};
+ghost use Rattle.book.specs.Opening.{New, Because, HandedBack};
 
+use crate::engine::Engine;
 use crate::refusals::{NotOpened, OpenRefusal};
 use crate::state::Book;
 use directory::directories::Directory;
@@ -11,8 +14,21 @@ use std::alloc::Global;
 use tape::tapes::Tape;
 use terms::lawful::Quote;
 
+// The table of a new book, if the tape is empty.
+fn table_for<T: Tape>(heap: Global, quote: Quote, tape: &T) -> Result<Table, OpenRefusal>
+    ensures { MatchResult result
+        (λ t. (T.Tape.lines tape.now ≡ []) × (t.rows.items ≡ []) × (seen t ≡ (opened quote.bid quote.offer).market))
+        (λ why. Because T.Tape tape.now why) }
+{
+    if tape.read(1).is_some() {
+        return Err(OpenRefusal::TapeUsed);
+    }
+    Ok(Table::open(heap, quote)?)
+}
+
 impl<D: Directory, T: Tape> Book<D, T> {
-    // A book with nothing in it, on an emptied directory and an empty tape. All memory that it will ever use is had here.
+    // A book with nothing in it, on an emptied directory and an empty tape. All memory that it will ever use is had here. Each thing
+    // is handed over once, as in a replay.
     pub fn open(
         heap: Global,
         quote: Quote,
@@ -20,33 +36,29 @@ impl<D: Directory, T: Tape> Book<D, T> {
         tape: T,
     ) -> Result<Book<D, T>, NotOpened<D, T>>
         ensures { MatchResult result
-            (λ b. New D.Directory T.Tape quote.bid quote.offer tape b)
+            (λ b. New T.Tape quote.bid quote.offer tape b.engine)
             (λ e. HandedBack T.Tape directory tape e) }
     {
-        if tape.read(1).is_some() {
-            let why = OpenRefusal::TapeUsed;
-            return Err(NotOpened {
-                directory,
-                tape,
-                why,
-            });
-        }
-        let Ok(table) = Table::open(heap, quote) else {
-            let why = OpenRefusal::NoMemory;
-            return Err(NotOpened {
-                directory,
-                tape,
-                why,
-            });
+        // Directory and tape move into either answer; a closure would take them from the other.
+        let table = match table_for(heap, quote, &tape) {
+            Ok(table) => table,
+            Err(why) => {
+                return Err(NotOpened {
+                    directory,
+                    tape,
+                    why,
+                });
+            }
         };
         directory.clear();
         let room = tape.free_lines();
-        Ok(Book {
+        let engine = Engine {
             directory,
             market: Market { table, tape },
             clock: 0,
             entries: 0,
             room,
-        })
+        };
+        Ok(Book { engine })
     }
 }

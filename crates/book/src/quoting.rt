@@ -4,19 +4,28 @@ ghost use Rattle.rules.specs.Calls.{quote as quote_of};
 ghost use Rattle.book.specs.Books.{Sound};
 ghost use Rattle.book.specs.Carried.{Carried, quote_answer};
 
+use crate::engine::Engine;
 use crate::state::Book;
 use directory::directories::Directory;
 use rules::refusal::Refusal;
 use tape::tapes::Tape;
 use terms::lawful::Quote;
 
-impl<D: Directory, T: Tape> Book<D, T> {
-    pub fn quote(&mut self, time: u64, quote: Quote) -> Result<(), Refusal>
+impl<D: Directory, T: Tape> Engine<D, T> {
+    pub(crate) fn quote(&mut self, time: u64, quote: Quote) -> Result<(), Refusal>
         ensures { Sound D.Directory T.Tape self.old → Carried D.Directory T.Tape self.old self.new (quote_of time quote.bid quote.offer) (quote_answer result) }
     {
         self.advance(time)?;
         self.market.requote(time, quote);
         self.tidy();
         Ok(())
+    }
+}
+
+impl<D: Directory, T: Tape> Book<D, T> {
+    pub fn quote(&mut self, time: u64, quote: Quote) -> Result<(), Refusal>
+        ensures { Carried D.Directory T.Tape self.old.engine self.new.engine (quote_of time quote.bid quote.offer) (quote_answer result) }
+    {
+        self.engine.quote(time, quote)
     }
 }

@@ -1,5 +1,9 @@
 // What comes back from a call that is not carried out.
+ghost use Rattle.std.specs.Prelude.{◌≡◌};
+ghost use Rattle.book.specs.declared.refusals.OpenRefusal.TheVariants.{NoMemory};
+
 use rules::refusal::Refusal;
+use std::alloc::AllocError;
 use terms::lawful::Ticket;
 
 // A refused entry hands its ticket back.
@@ -7,6 +11,14 @@ use terms::lawful::Ticket;
 pub struct Rejected {
     pub ticket: Ticket,
     pub why: Refusal,
+}
+
+impl From<Rejected> for Refusal {
+    ghost from_gives = { λ r why. why ≡ r.why };
+
+    fn from(rejected: Rejected) -> Refusal {
+        rejected.why
+    }
 }
 
 #[derive(Clone, Copy, PartialEq, Eq, Debug, Drop)]
@@ -22,4 +34,20 @@ pub struct NotOpened<D, T> {
     pub directory: D,
     pub tape: T,
     pub why: OpenRefusal,
+}
+
+impl<D: Drop, T: Drop> From<NotOpened<D, T>> for OpenRefusal {
+    ghost from_gives = { λ n why. why ≡ n.why };
+
+    fn from(not_opened: NotOpened<D, T>) -> OpenRefusal {
+        not_opened.why
+    }
+}
+
+impl From<AllocError> for OpenRefusal {
+    ghost from_gives = { λ _ why. why ≡ NoMemory };
+
+    fn from(_: AllocError) -> OpenRefusal {
+        OpenRefusal::NoMemory
+    }
 }

@@ -1,14 +1,15 @@
-// The book: a directory, the market, the clock and the count of entries.
+// The book, as it is between calls.
+ghost use Rattle.book.specs.Books.{Sound, KnowsRoom};
+ghost use Rattle.book.specs.Once.{Sound-prop};
+
+use crate::engine::Engine;
 use directory::directories::Directory;
-use market::state::Market;
 use tape::tapes::Tape;
 
-// `room` is how many lines the tape had free when the book was opened.
+// `open` makes it sound, and every call keeps it so.
 #[derive(Drop)]
 pub struct Book<D: Directory, T: Tape> {
-    pub(crate) directory: D,
-    pub(crate) market: Market<T>,
-    pub(crate) clock: u64,
-    pub(crate) entries: u32,
-    pub(crate) room: usize,
+    pub(crate) engine: Engine<D, T>,
+    pub ghost sound: { Sound D.Directory T.Tape engine } by { Sound-prop D.Directory T.Tape engine },
+    pub ghost knows_room: { KnowsRoom T.Tape engine },
 }

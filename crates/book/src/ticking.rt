@@ -4,13 +4,14 @@ ghost use Rattle.rules.specs.Calls.{tick as tick_of};
 ghost use Rattle.book.specs.Books.{book_of, Sound};
 ghost use Rattle.book.specs.Carried.{Carried, Begun, time_and_tape, tick_answer};
 
+use crate::engine::Engine;
 use crate::state::Book;
 use directory::directories::Directory;
 use rules::LAST_MOMENT;
 use rules::refusal::Refusal;
 use tape::tapes::Tape;
 
-impl<D: Directory, T: Tape> Book<D, T> {
+impl<D: Directory, T: Tape> Engine<D, T> {
     // The time must be of the day and not before the clock, and the tape must have as many free lines as orders rest.
     pub(crate) fn check(&self, time: u64) -> Result<(), Refusal>
         ensures { result ≡ time_and_tape (T.Tape.free self.now.market.tape) time (book_of T.Tape self.now) }
@@ -33,10 +34,12 @@ impl<D: Directory, T: Tape> Book<D, T> {
         self.bring_to(time);
         Ok(())
     }
+}
 
+impl<D: Directory, T: Tape> Book<D, T> {
     pub fn tick(&mut self, time: u64) -> Result<(), Refusal>
-        ensures { Sound D.Directory T.Tape self.old → Carried D.Directory T.Tape self.old self.new (tick_of time) (tick_answer result) }
+        ensures { Carried D.Directory T.Tape self.old.engine self.new.engine (tick_of time) (tick_answer result) }
     {
-        self.advance(time)
+        self.engine.advance(time)
     }
 }

@@ -1,10 +1,12 @@
--- Orders of a book, written one after another by their index: what is left to write comes to the same as writing them all.
--- Cite written_none at the start, written_more and written_past after a turn, written_all and written_half at the end, then book_written.
-use Rattle.std.proofs.Common.{◌≡◌, ℕ, zero, suc, ◌+◌, ◌≤◌, List, [], ◌∷◌, ◌++◌, map, length, drop, Some, None, Ok, Err, Result, sym, refl, ap, ◌∙◌, subst, append-nil, add-one, arith}
-use Rattle.std.specs.List.{slice_get, AllByRecursion as Every}
-use Rattle.std.proofs.lemmas.List.{drop_all}
+-- Orders of a book, written one after another: what is left to write comes to the same as writing them all. Cite written_none
+-- at the start, row_next and written_more in a turn, written_all and written_half at the end, then book_written.
+use Rattle.std.proofs.Common.{◌≡◌, ℕ, ◌+◌, ◌<◌, List, [], ◌∷◌, ◌++◌, map, length, get_or, drop, Ok, Err, Result, sym, refl, ap, ◌∙◌, subst, append-nil}
+use Rattle.std.specs.List.{AllByRecursion as Every}
+use Rattle.std.proofs.lemmas.List.{at_drop_more}
 use Rattle.register.specs.Layout.{Listed}
-use Rattle.rules.specs.Market.{Order, Book}
+use Rattle.orders.specs.declared.row.Row.{Row}
+use Rattle.orders.specs.Rows.{row_order}
+use Rattle.rules.specs.Market.{Book}
 use Rattle.writing.specs.declared.fill.NoRoom.{NoRoom}
 use Rattle.writing.specs.Filling.{Page, fresh, room, order_fits, orders_fit, whole_orders, with_order, with_orders}
 use Rattle.writing.specs.Refusal.{done_if, mark_if}
@@ -13,17 +15,6 @@ use Rattle.writing.proofs.Fields.{passed, failed}
 use Rattle.writing.proofs.Holding.{wholes_more, wholes_stop, answer_reads}
 use Rattle.writing.proofs.Several.{nothing_more, one_more, one_fits, half_left, none_fits, mark_back, refused_told}
 use Rattle.loading.specs.Written.{listed_order, orders_listed, ReadsAsTicket, Written}
-
--- the orders from an index on, by the one that stands there
-from_there : (os : List Order) (i : ℕ) (o : Order) → Some o ≡ slice_get os i → drop i os ≡ o ∷ drop (i + 1) os
-from_there [] i o e = let z : ◌≡◌ {A = ℕ} 0 1 = cc in absurd (omega arith)
-from_there (x ∷ os) zero o e = let same : x ≡ o = cc in ap (λ (y : Order). y ∷ os) same
-from_there (x ∷ os) (suc i) o e = rw add-one (from_there os i o e ∙ ap (λ n. o ∷ drop n os) (add-one i))
-
-none_there : (os : List Order) (i : ℕ) → None ≡ slice_get os i → length os ≤ i
-none_there [] i e = omega arith
-none_there (x ∷ os) zero e = let z : ◌≡◌ {A = ℕ} 0 1 = cc in absurd (omega arith)
-none_there (x ∷ os) (suc i) e = omega (arith, none_there os i e)
 
 -- all orders are `os`, and `left` are left to write
 pub record SoWritten (start p : Page) (os left : List Listed) : Type 0 where
@@ -80,32 +71,26 @@ module _ (start p : Page) (os : List Listed) where
           holds = subst (λ (z : List Listed). Holds q z) (sym wholes) (back s.so_far s.holds);
         }
 
--- the orders of a book, from an index on
-abbrev pub listed_from : ℕ → List Order → List Listed
-listed_from i os = map listed_order (drop i os)
+-- rows, as a register lists their orders
+abbrev pub rows_listed : List Row → List Listed
+rows_listed rs = map listed_order (map row_order rs)
 
-pub next_listed : (os : List Order) (i : ℕ) (o : Order) → Some o ≡ slice_get os i → listed_from i os ≡ listed_order o ∷ listed_from (i + 1) os
-next_listed os i o e = ap (map listed_order) (from_there os i o e)
+-- the row at i comes next
+pub row_next : (start p : Page) (all : List Listed) (rs : List Row) (i : ℕ) (row : Row) (o : Listed) → i < length rs → row ≡ get_or rs i row → o ≡ listed_order (row_order row) → SoWritten start p all (rows_listed (drop i rs)) → SoWritten start p all (o ∷ rows_listed (drop (i + 1) rs))
+row_next start p all rs i row o lt is own s =
+    let rest = rows_listed (drop (i + 1) rs) in
+    subst (λ z. SoWritten start p all z)
+    (at_drop_more rows_listed rs i row lt ∙ ap (λ x. listed_order (row_order x) ∷ rest) (sym is) ∙ ap (λ x. x ∷ rest) (sym own)) s
 
--- past the last order nothing is left, here or further on
-pub none_listed : (os : List Order) (i : ℕ) → length os ≤ i → listed_from i os ≡ []
-none_listed os i h = ap (map listed_order) (drop_all i os h)
-
-pub written_past : (start p : Page) (all : List Listed) (os : List Order) (i : ℕ) → None ≡ slice_get os i → SoWritten start p all (listed_from i os) → SoWritten start p all (listed_from (i + 1) os)
-written_past start p all os i e s =
-    let few = none_there os i e in
-    subst (λ z. SoWritten start p all z) (none_listed os i few ∙ sym (none_listed os (i + 1) (omega arith))) s
-
-pub book_written : (b : Book) (before after : List ℕ) (start p : Page) (r : Result ℕ NoRoom) → start ≡ fresh before → after ≡ p.bytes → AllWritten start p (orders_listed b) r → Every ReadsAsTicket b.market.orders → Written b before after r
-book_written b before after start p r new lent s tickets =
-    let os = orders_listed b in
-    let told : r ≡ mark_if (orders_fit (room (fresh before)) os) p.mark = s.outcome ∙ ap (λ (z : Page). mark_if (orders_fit (room z) os) p.mark) new in
-    let page : p ≡ with_orders (fresh before) os = s.page ∙ ap (λ z. with_orders z os) new in
+-- `os` are the orders of the book
+pub book_written : (b : Book) (before after : List ℕ) (start p : Page) (r : Result ℕ NoRoom) (os : List Listed) → os ≡ orders_listed b → start ≡ fresh before → after ≡ p.bytes → AllWritten start p os r → Every ReadsAsTicket b.market.orders → Written b before after r
+book_written b before after start p r os own new lent s tickets =
+    let all = orders_listed b in
+    let done : AllWritten (fresh before) p all r = subst (λ z. AllWritten z p all r) new (subst (λ z. AllWritten start p z r) own s) in
+    let outcome : r ≡ mark_if (orders_fit (room (fresh before)) all) p.mark = done.outcome in
     record {
-      bytes = lent ∙ ap (λ (z : Page). z.bytes) page;
-      outcome = told ∙ ap (λ (z : Page). mark_if (orders_fit (room (fresh before)) os) z.mark) page;
-      reads_back =
-          answer_reads (room (fresh before)) os p after r told lent
-          (subst (λ (z : Page). Holds p (whole_orders (room z) os)) new s.holds);
+      bytes = lent ∙ ap (λ (z : Page). z.bytes) done.page;
+      outcome = outcome ∙ ap (λ (z : Page). mark_if (orders_fit (room (fresh before)) all) z.mark) done.page;
+      reads_back = answer_reads (room (fresh before)) all p after r outcome lent done.holds;
       tickets = tickets;
     }

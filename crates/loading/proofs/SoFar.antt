@@ -19,7 +19,7 @@ use Rattle.rules.specs.Market.{Book as RuleBook}
 use Rattle.rules.specs.Runs.{run}
 use Rattle.market.specs.Markets.{capacity_of}
 use Rattle.book.specs.declared.state.Book.{Book}
-use Rattle.book.specs.Books.{book_of, Sound}
+use Rattle.book.specs.Books.{book_of}
 use Rattle.loading.specs.declared.faults.LoadFault.{LoadFault}
 use Rattle.loading.specs.declared.faults.LoadFault.TheVariants.{Register, SlipsFull}
 use Rattle.loading.specs.declared.slips.Slip.{Slip}
@@ -60,104 +60,96 @@ ended_on x y more e = ap (λ (z : Ended). go_on z.stop z.load more) e
 abbrev load_with : List Call → ℕ → List Slip → RuleBook → Load
 load_with cs n ss b = record { calls = cs; entered = n; slips = ss; book = b }
 
-module _ {D T : Type 0} (d : DirectoryOf D) (t : TapeOf T) (before : Book D T) (roll : Roll Slip) (time : ℕ) (register : List ℕ) where
+module _ {D T : Type 0} {d : DirectoryOf D} {t : TapeOf T} (before : Book D T d t) (roll : Roll Slip) (time : ℕ) (register : List ℕ) where
   abbrev room : ℕ
-  room = capacity_of t before.market
+  room = capacity_of t before.engine.market
 
-  pub record SoFar (here : Book D T) (roll_here : Roll Slip) (rest : List ℕ) (so_entered so_put : ℕ) : Type 0 where
+  pub record SoFar (here : Book D T d t) (roll_here : Roll Slip) (rest : List ℕ) (so_entered so_put : ℕ) : Type 0 where
     pub calls : List Call
     pub slips : List Slip
     pub turns : ℕ
     pub enough : length rest ≤ turns
-    pub same : load_into t before roll time register ≡ load_on time room (room_left roll) turns (length register) rest (load_with calls so_entered slips (book_of t here))
-    pub ran : book_of t here ≡ (run room calls (book_of t before)).book
+    pub same : load_into before roll time register ≡ load_on time room (room_left roll) turns (length register) rest (load_with calls so_entered slips (book_of t here.engine))
+    pub ran : book_of t here.engine ≡ (run room calls (book_of t before.engine)).book
     pub put : records roll_here ≡ records roll ++ slips
     pub places : room_left roll_here + length slips ≡ room_left roll
     pub count : so_put ≡ length slips
-    pub sound : Sound d t here
-    pub capacity : capacity_of t here.market ≡ room
-    pub same_room : here.room ≡ before.room
+    pub capacity : capacity_of t here.engine.market ≡ room
 
-  pub so_far_none : Sound d t before → SoFar before roll register 0 0
-  so_far_none sound =
+  pub so_far_none : SoFar before roll register 0 0
+  so_far_none =
       record {
         calls = [];
         slips = [];
         turns = length register;
         enough = omega arith;
         same = refl;
-        ran = sym (run_none room (book_of t before));
+        ran = sym (run_none room (book_of t before.engine));
         put = sym (append-nil (records roll));
         places = add-zero (room_left roll);
         count = refl;
-        sound = sound;
         capacity = refl;
-        same_room = refl;
       }
 
   -- a load that is over
-  over : (here : Book D T) (roll_here : Roll Slip) (r : Result Loaded LoadFault) (l : Load) (stop : Option LoadFault) → load_into t before roll time register ≡ stopped_if stop l
+  over : (here : Book D T d t) (roll_here : Roll Slip) (r : Result Loaded LoadFault) (l : Load) (stop : Option LoadFault) → load_into before roll time register ≡ stopped_if stop l
       → r ≡ load_answer stop l
-      → book_of t here ≡ (run room l.calls (book_of t before)).book
+      → book_of t here.engine ≡ (run room l.calls (book_of t before.engine)).book
       → records roll_here ≡ records roll ++ l.slips
       → room_left roll_here + length l.slips ≡ room_left roll
-      → Sound d t here
-      → capacity_of t here.market ≡ room
-      → here.room ≡ before.room
-      → LoadedInto d t before here roll roll_here time register r
-  over here roll_here r l stop same answer ran put places sound capacity same_room =
+      → capacity_of t here.engine.market ≡ room
+      → LoadedInto before here roll roll_here time register r
+  over here roll_here r l stop same answer ran put places capacity =
       record {
         answer = answer ∙ ap (λ (z : Ended). load_answer z.stop z.load) (sym same);
-        ran = ran ∙ ap (λ (z : Ended). (run room z.load.calls (book_of t before)).book) (sym same);
-        sound = sound;
+        ran = ran ∙ ap (λ (z : Ended). (run room z.load.calls (book_of t before.engine)).book) (sym same);
         capacity = capacity;
-        room = same_room;
         slips = put ∙ ap (λ (z : Ended). records roll ++ z.load.slips) (sym same);
         places = ap (λ (z : Ended). room_left roll_here + length z.load.slips) same ∙ places;
-        lawful = load_lawful time room (room_left roll) register (book_of t before);
+        lawful = load_lawful time room (room_left roll) register (book_of t before.engine);
       }
 
-  module _ (here : Book D T) (roll_here : Roll Slip) (rest : List ℕ) (n k : ℕ) (s : SoFar here roll_here rest n k) where
+  module _ (here : Book D T d t) (roll_here : Roll Slip) (rest : List ℕ) (n k : ℕ) (s : SoFar here roll_here rest n k) where
     abbrev so_far : Load
-    so_far = load_with s.calls n s.slips (book_of t here)
+    so_far = load_with s.calls n s.slips (book_of t here.engine)
 
-    pub finished : None ≡ read_next (length register) rest → LoadedInto d t before here roll roll_here time register (Ok (record { entered = n; slips = k }))
+    pub finished : None ≡ read_next (length register) rest → LoadedInto before here roll roll_here time register (Ok (record { entered = n; slips = k }))
     finished e =
         over here roll_here _ so_far None (s.same ∙ load_end time room (room_left roll) (length register) rest so_far s.turns e)
-        (ap (λ m. Ok (record { entered = n; slips = m })) s.count) s.ran s.put s.places s.sound s.capacity s.same_room
+        (ap (λ m. Ok (record { entered = n; slips = m })) s.count) s.ran s.put s.places s.capacity
 
-    pub broken : (fault : Fault) → 0 < length rest → Some (Err fault) ≡ read_next (length register) rest → LoadedInto d t before here roll roll_here time register (Err (Register fault))
+    pub broken : (fault : Fault) → 0 < length rest → Some (Err fault) ≡ read_next (length register) rest → LoadedInto before here roll roll_here time register (Err (Register fault))
     broken fault h e =
         over here roll_here _ so_far (Some (Register fault)) (s.same ∙ load_fault time room (room_left roll) (length register) rest so_far s.turns fault (omega (arith, s.enough)) e)
-        refl s.ran s.put s.places s.sound s.capacity s.same_room
+        refl s.ran s.put s.places s.capacity
 
     -- an order came next, and was attempted
-    module _ (o : ListedOrder) (left : List ℕ) (came : Came register rest left o) (after : Book D T) (r : Result (Unit {0}) LoadFault) (tried : Attempted d t here after time o.place (listed_of o) r) where
+    module _ (o : ListedOrder) (left : List ℕ) (came : Came register rest left o) (after : Book D T d t) (r : Result (Unit {0}) LoadFault) (tried : Attempted here after time o.place (listed_of o) r) where
       abbrev place : ℕ
       place = place_in (length register) rest
 
       abbrev tries : Attempt
-      tries = attempt time room place (listed_of o) (book_of t here)
+      tries = attempt time room place (listed_of o) (book_of t here.engine)
 
-      tries_are : attempt_at t here time o.place (listed_of o) ≡ tries
+      tries_are : attempt_at here time o.place (listed_of o) ≡ tries
       tries_are =
-          ap (λ m. attempt time m o.place (listed_of o) (book_of t here)) s.capacity ∙ ap (λ m. attempt time room m (listed_of o) (book_of t here)) came.placed
+          ap (λ m. attempt time m o.place (listed_of o) (book_of t here.engine)) s.capacity ∙ ap (λ m. attempt time room m (listed_of o) (book_of t here.engine)) came.placed
 
-      book_after : book_of t after ≡ tries.book
+      book_after : book_of t after.engine ≡ tries.book
       book_after = tried.book ∙ ap (λ (a : Attempt). a.book) tries_are
 
       abbrev calls_after : List Call
       calls_after = s.calls ++ tries.calls
 
-      ran_after : book_of t after ≡ (run room calls_after (book_of t before)).book
+      ran_after : book_of t after.engine ≡ (run room calls_after (book_of t before.engine)).book
       ran_after =
           book_after
-          ∙ attempt_runs time room place (listed_of o) (book_of t here)
+          ∙ attempt_runs time room place (listed_of o) (book_of t here.engine)
           ∙ ap (λ (b : RuleBook). (run room tries.calls b).book) s.ran
-          ∙ sym (run_append room s.calls tries.calls (book_of t before))
+          ∙ sym (run_append room s.calls tries.calls (book_of t before.engine))
 
       abbrev load_after : Load
-      load_after = load_with calls_after n s.slips (book_of t after)
+      load_after = load_with calls_after n s.slips (book_of t after.engine)
 
       abbrev turns_left : ℕ
       turns_left = s.turns - 1
@@ -167,7 +159,7 @@ module _ {D T : Type 0} (d : DirectoryOf D) (t : TapeOf T) (before : Book D T) (
 
       -- the definition after the order, once its fault is known
       stepped : (fault : Option LoadFault) → fault_of r ≡ fault
-          → load_into t before roll time register
+          → load_into before roll time register
           ≡ go_on (accounted (room_left roll) place fault load_after).stop (accounted (room_left roll) place fault load_after).load (load_on time room (room_left roll) turns_left (length register) left)
       stepped fault told =
           let turn : s.turns ≡ suc turns_left = omega (arith, s.enough, came.shorter) in
@@ -192,9 +184,7 @@ module _ {D T : Type 0} (d : DirectoryOf D) (t : TapeOf T) (before : Book D T) (
             put = s.put;
             places = s.places;
             count = s.count;
-            sound = tried.sound;
             capacity = tried.capacity ∙ s.capacity;
-            same_room = tried.room ∙ s.same_room;
           }
 
       module _ (fault : LoadFault) (told : fault_of r ≡ Some fault) where
@@ -213,15 +203,13 @@ module _ {D T : Type 0} (d : DirectoryOf D) (t : TapeOf T) (before : Book D T) (
               put = pushed ∙ ap (λ z. z ++ (slip_of fault ∷ [])) s.put ∙ append_assoc (records roll) s.slips (slip_of fault ∷ []);
               places = omega (arith, long, less, s.places);
               count = omega (arith, long, s.count);
-              sound = tried.sound;
               capacity = tried.capacity ∙ s.capacity;
-              same_room = tried.room ∙ s.same_room;
             }
 
-        pub slips_full : (roll_after : Roll Slip) → records roll_after ≡ records roll_here → room_left roll_here ≡ 0 → room_left roll_after ≡ 0 → LoadedInto d t before after roll roll_after time register (Err (SlipsFull o.place))
+        pub slips_full : (roll_after : Roll Slip) → records roll_after ≡ records roll_here → room_left roll_here ≡ 0 → room_left roll_after ≡ 0 → LoadedInto before after roll roll_after time register (Err (SlipsFull o.place))
         slips_full roll_after kept full still =
             let more = load_on time room (room_left roll) turns_left (length register) left in
             let none : ltb (length s.slips) (room_left roll) ≡ false = le-ltb (length s.slips) (room_left roll) (omega (arith, s.places)) in
             over after roll_after _ load_after (Some (SlipsFull place))
             (stepped (Some fault) told ∙ ended_on _ _ more (ap (slip_put place fault load_after) none))
-            (ap (λ m. Err (SlipsFull m)) came.placed) ran_after (kept ∙ s.put) (omega (arith, s.places)) tried.sound (tried.capacity ∙ s.capacity) (tried.room ∙ s.same_room)
+            (ap (λ m. Err (SlipsFull m)) came.placed) ran_after (kept ∙ s.put) (omega (arith, s.places)) (tried.capacity ∙ s.capacity)

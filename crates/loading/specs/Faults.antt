@@ -1,5 +1,6 @@
 -- Number, layer and place of each fault of a load. Layers: 1 the field, 2 the order, 3 the ticket, 4 the book.
-use Rattle.std.specs.Prelude.{ℕ, List, ◌++◌, codes, decimal}
+use Rattle.std.specs.Prelude.{ℕ, List, codes}
+use Rattle.register.specs.Reports.{told}
 use Rattle.register.specs.Faults.{fault_number, fault_layer, fault_place, fault_words}
 use Rattle.rules.specs.declared.refusal.Refusal.{Refusal}
 use Rattle.rules.specs.declared.refusal.Refusal.TheVariants as refusal
@@ -40,10 +41,7 @@ load_fault_words (Book why place) = book_words why
 
 -- as people read it: number, layer, place, words
 abbrev pub load_fault_text : LoadFault → List ℕ
-load_fault_text e =
-    decimal (load_fault_number e)
-    ++ (codes " (layer "
-    ++ (decimal (load_fault_layer e) ++ (codes ", at " ++ (decimal (load_fault_place e) ++ (codes "): " ++ load_fault_words e)))))
+load_fault_text e = told (load_fault_number e) (load_fault_layer e) (load_fault_place e) (load_fault_words e)
 
 abbrev pub slip_of : LoadFault → Slip
 slip_of e = record { number = load_fault_number e; layer = load_fault_layer e; place = load_fault_place e }

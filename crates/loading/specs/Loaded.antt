@@ -9,7 +9,7 @@ use Rattle.directory.specs.declared.directories.Directory.{Ghosts as DirectoryOf
 use Rattle.rules.specs.Runs.{run}
 use Rattle.market.specs.Markets.{capacity_of}
 use Rattle.book.specs.declared.state.Book.{Book}
-use Rattle.book.specs.Books.{book_of, Sound}
+use Rattle.book.specs.Books.{book_of}
 use Rattle.loading.specs.declared.faults.LoadFault.{LoadFault}
 use Rattle.loading.specs.declared.slips.Slip.{Slip}
 use Rattle.loading.specs.declared.slips.Loaded.{Loaded}
@@ -21,26 +21,22 @@ fault_of (Ok u) = None
 fault_of (Err e) = Some e
 
 -- one order, at its place
-abbrev pub attempt_at : {D T : Type 0} → TapeOf T → Book D T → ℕ → ℕ → Listed → Attempt
-attempt_at t b time place o = attempt time (capacity_of t b.market) place o (book_of t b)
+abbrev pub attempt_at : {D T : Type 0} {d : DirectoryOf D} {t : TapeOf T} → Book D T d t → ℕ → ℕ → Listed → Attempt
+attempt_at {t = t} b time place o = attempt time (capacity_of t b.engine.market) place o (book_of t b.engine)
 
-pub record Attempted {D T : Type 0} (d : DirectoryOf D) (t : TapeOf T) (before after : Book D T) (time place : ℕ) (o : Listed) (r : Result (Unit {0}) LoadFault) : Type 0 where
-  pub fault : fault_of r ≡ (attempt_at t before time place o).fault
-  pub book : book_of t after ≡ (attempt_at t before time place o).book
-  pub sound : Sound d t after
-  pub capacity : capacity_of t after.market ≡ capacity_of t before.market
-  pub room : after.room ≡ before.room
+pub record Attempted {D T : Type 0} {d : DirectoryOf D} {t : TapeOf T} (before after : Book D T d t) (time place : ℕ) (o : Listed) (r : Result (Unit {0}) LoadFault) : Type 0 where
+  pub fault : fault_of r ≡ (attempt_at before time place o).fault
+  pub book : book_of t after.engine ≡ (attempt_at before time place o).book
+  pub capacity : capacity_of t after.engine.market ≡ capacity_of t before.engine.market
 
 -- a whole register, with what is free on the roll for its slips
-abbrev pub load_into : {D T : Type 0} → TapeOf T → Book D T → Roll Slip → ℕ → List ℕ → Ended
-load_into t b roll time register = load_of time (capacity_of t b.market) (room_left roll) register (book_of t b)
+abbrev pub load_into : {D T : Type 0} {d : DirectoryOf D} {t : TapeOf T} → Book D T d t → Roll Slip → ℕ → List ℕ → Ended
+load_into {t = t} b roll time register = load_of time (capacity_of t b.engine.market) (room_left roll) register (book_of t b.engine)
 
-pub record LoadedInto {D T : Type 0} (d : DirectoryOf D) (t : TapeOf T) (before after : Book D T) (roll roll_after : Roll Slip) (time : ℕ) (register : List ℕ) (r : Result Loaded LoadFault) : Type 0 where
-  pub answer : r ≡ load_answer (load_into t before roll time register).stop (load_into t before roll time register).load
-  pub ran : book_of t after ≡ (run (capacity_of t before.market) (load_into t before roll time register).load.calls (book_of t before)).book
-  pub sound : Sound d t after
-  pub capacity : capacity_of t after.market ≡ capacity_of t before.market
-  pub room : after.room ≡ before.room
-  pub slips : records roll_after ≡ records roll ++ (load_into t before roll time register).load.slips
-  pub places : room_left roll_after + length (load_into t before roll time register).load.slips ≡ room_left roll
-  pub lawful : LawfulLoad time register (load_into t before roll time register)
+pub record LoadedInto {D T : Type 0} {d : DirectoryOf D} {t : TapeOf T} (before after : Book D T d t) (roll roll_after : Roll Slip) (time : ℕ) (register : List ℕ) (r : Result Loaded LoadFault) : Type 0 where
+  pub answer : r ≡ load_answer (load_into before roll time register).stop (load_into before roll time register).load
+  pub ran : book_of t after.engine ≡ (run (capacity_of t before.engine.market) (load_into before roll time register).load.calls (book_of t before.engine)).book
+  pub capacity : capacity_of t after.engine.market ≡ capacity_of t before.engine.market
+  pub slips : records roll_after ≡ records roll ++ (load_into before roll time register).load.slips
+  pub places : room_left roll_after + length (load_into before roll time register).load.slips ≡ room_left roll
+  pub lawful : LawfulLoad time register (load_into before roll time register)

@@ -1,4 +1,7 @@
 // What can be wrong with a register that is loaded.
+ghost use Rattle.std.specs.Prelude.{◌≡◌};
+ghost use Rattle.loading.specs.declared.faults.LoadFault.TheVariants.{Register};
+
 use register::faults::Fault;
 use rules::refusal::Refusal;
 
@@ -11,4 +14,12 @@ pub enum LoadFault {
     SlipsFull(usize),
     // the book refuses the order
     Book(Refusal, usize),
+}
+
+impl From<Fault> for LoadFault {
+    ghost from_gives = { λ e load_fault. load_fault ≡ Register e };
+
+    fn from(fault: Fault) -> LoadFault {
+        LoadFault::Register(fault)
+    }
 }

@@ -1,6 +1,5 @@
 // A whole register.
 ghost use Rattle.std.specs.Prelude.{◌≡◌};
-ghost use Rattle.book.specs.Books.{Sound};
 ghost use Rattle.loading.specs.Loaded.{LoadedInto};
 
 use crate::faults::LoadFault;
@@ -20,24 +19,20 @@ pub fn load<D: Directory, T: Tape>(
     register: &[u8],
     slips: &mut Roll<'_, Slip>,
 ) -> Result<Loaded, LoadFault>
-    ensures { Sound D.Directory T.Tape book.old → LoadedInto D.Directory T.Tape book.old book.new slips.old slips.new time register.now result }
+    ensures { LoadedInto book.old book.new slips.old slips.new time register.now result }
 {
-    let mut loaded = Loaded {
-        entered: 0,
-        slips: 0,
-    };
-    let mut reader = Reader::new(register);
-    while let Some(next) = reader.next_order() {
-        let order = match next {
-            Ok(order) => order,
-            Err(fault) => return Err(LoadFault::Register(fault)),
-        };
+    let mut loaded = Loaded::default();
+    for next in Reader::new(register) {
+        let order = next?;
         match load_order(book, time, &order) {
             Ok(()) => loaded.entered += 1,
-            Err(fault) => match slips.push(fault.slip()) {
-                Ok(()) => loaded.slips += 1,
-                Err(_) => return Err(LoadFault::SlipsFull(order.place)),
-            },
+            Err(fault) => {
+                let place = order.place;
+                slips
+                    .push(fault.slip())
+                    .map_err(|_| LoadFault::SlipsFull(place))?;
+                loaded.slips += 1;
+            }
         }
     }
     Ok(loaded)

@@ -1,7 +1,6 @@
 // One order of a register.
 ghost use Rattle.std.specs.Prelude.{◌≡◌};
 ghost use Rattle.register.specs.Parts.{listed_of};
-ghost use Rattle.book.specs.Books.{Sound};
 ghost use Rattle.loading.specs.Loaded.{Attempted};
 
 use crate::faults::LoadFault;
@@ -16,14 +15,11 @@ pub(crate) fn load_order<D: Directory, T: Tape>(
     time: u64,
     order: &Listed<'_>,
 ) -> Result<(), LoadFault>
-    ensures { Sound D.Directory T.Tape book.old → Attempted D.Directory T.Tape book.old book.new time order.now.place (listed_of order.now) result }
+    ensures { Attempted book.old book.new time order.now.place (listed_of order.now) result }
 {
-    let ticket = match order.ticket() {
-        Ok(ticket) => ticket,
-        Err(fault) => return Err(LoadFault::Register(fault)),
-    };
-    match book.enter(time, order.identifier.bytes, ticket) {
-        Ok(_) => Ok(()),
-        Err(rejected) => Err(LoadFault::Book(rejected.why, order.place)),
-    }
+    let ticket = order.ticket()?;
+    let place = order.place;
+    book.enter(time, order.identifier.bytes, ticket)
+        .map_err(|rejected| LoadFault::Book(rejected.why, place))?;
+    Ok(())
 }

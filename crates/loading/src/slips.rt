@@ -1,7 +1,7 @@
 // What a load puts on record of an order that it could not enter.
 
-// A fault in numbers.
-#[derive(Clone, Copy, PartialEq, Eq, Debug, Drop)]
+// A fault in numbers, as it is put on a roll and printed.
+#[derive(Clone, Copy, PartialEq, Eq, Debug, Default, Drop)]
 pub struct Slip {
     pub number: u8,
     pub layer: u8,
@@ -9,7 +9,7 @@ pub struct Slip {
 }
 
 // A finished load: the orders entered, and the slips put.
-#[derive(Clone, Copy, PartialEq, Eq, Debug, Drop)]
+#[derive(Clone, Copy, Default, PartialEq, Eq, Debug, Drop)]
 pub struct Loaded {
     pub entered: usize,
     pub slips: usize,

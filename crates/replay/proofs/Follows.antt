@@ -10,7 +10,7 @@ use Rattle.rules.specs.Runs.{Run, run}
 use Rattle.rules.proofs.Runs.{answered, run_push}
 use Rattle.market.specs.Markets.{capacity_of}
 use Rattle.book.specs.declared.state.Book.{Book}
-use Rattle.book.specs.Books.{book_of, Sound}
+use Rattle.book.specs.Books.{book_of}
 use Rattle.book.specs.Carried.{outcome_of, Carried}
 use Rattle.replay.specs.declared.calls.Call.{Call}
 use Rattle.replay.specs.declared.calls.Answer.{Answer}
@@ -27,40 +27,33 @@ no_calls : (room : ℕ) (b : RuleBook) → run room [] b ≡ run_with [] b
 unfolding run
 no_calls room b = refl
 
-module _ {D T : Type 0} (d : DirectoryOf D) (t : TapeOf T) where
-  pub followed_none : (b : Book D T) (zs : List Answer) → zs ≡ [] → Sound d t b → Followed d t b b [] zs
-  followed_none b zs e sound =
+module _ {D T : Type 0} {d : DirectoryOf D} {t : TapeOf T} where
+  pub followed_none : (b : Book D T d t) (zs : List Answer) → zs ≡ [] → Followed b b [] zs
+  followed_none b zs e =
       record {
-        ran = same_run (ap answers_of e) refl ∙ sym (no_calls (capacity_of t b.market) (book_of t b));
-        sound = sound;
+        ran = same_run (ap answers_of e) refl ∙ sym (no_calls (capacity_of t b.engine.market) (book_of t b.engine));
         capacity = refl;
-        room = refl;
       }
 
   -- one call more, that at i
-  pub followed_more : (before here after : Book D T) (calls : List Call) (i : ℕ) (c : Call) (zs more : List Answer) (a : Answer) → i < length calls → c ≡ get_or calls i c → more ≡ zs ++ (a ∷ [])
-      → Followed d t before here (take i calls) zs → Carried d t here after (call_of c) (answer_of a) → Followed d t before after (take (i + 1) calls) more
+  pub followed_more : (before here after : Book D T d t) (calls : List Call) (i : ℕ) (c : Call) (zs more : List Answer) (a : Answer) → i < length calls → c ≡ get_or calls i c → more ≡ zs ++ (a ∷ [])
+      → Followed before here (take i calls) zs → Carried d t here.engine after.engine (call_of c) (answer_of a) → Followed before after (take (i + 1) calls) more
   followed_more before here after calls i c zs more a lt is pushed so_far carried =
-      let room = capacity_of t before.market in
+      let room = capacity_of t before.engine.market in
       let k = call_of c in
       let cs = calls_of (take i calls) in
-      let b = book_of t before in
+      let b = book_of t before.engine in
       let next : calls_of (take (i + 1) calls) ≡ cs ++ (k ∷ []) =
       ap calls_of (take_more calls i c lt ∙ ap (λ (z : Call). take i calls ++ (z ∷ [])) (sym is)) ∙ map_push call_of (take i calls) c
       in
-      let free : t.free here.market.tape ≡ room - length (t.lines here.market.tape) = omega (arith, so_far.capacity) in
-      let made : run_of t more after ≡ answered (run_of t zs here) (outcome_of t here k) =
+      let free : t.free here.engine.market.tape ≡ room - length (t.lines here.engine.market.tape) = omega (arith, so_far.capacity) in
+      let made : run_of more after ≡ answered (run_of zs here) (outcome_of t here.engine k) =
       same_run (ap answers_of pushed ∙ map_push answer_of zs a ∙ ap (λ z. answers_of zs ++ (z ∷ [])) carried.answer) carried.book
       in
-      let so : run_of t more after ≡ run room (cs ++ (k ∷ [])) b =
+      let so : run_of more after ≡ run room (cs ++ (k ∷ [])) b =
       made
-      ∙ ap (λ n. answered (run_of t zs here) (call n k (book_of t here))) free
+      ∙ ap (λ n. answered (run_of zs here) (call n k (book_of t here.engine))) free
       ∙ ap (λ (r : Run). answered r (call (room - length r.book.market.tape) k r.book)) so_far.ran
       ∙ sym (run_push room cs k b)
       in
-      record {
-        ran = so ∙ ap (λ z. run room z b) (sym next);
-        sound = carried.sound;
-        capacity = carried.capacity ∙ so_far.capacity;
-        room = carried.room ∙ so_far.room;
-      }
+      record { ran = so ∙ ap (λ z. run room z b) (sym next); capacity = carried.capacity ∙ so_far.capacity }

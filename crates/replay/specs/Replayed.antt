@@ -5,17 +5,15 @@ use Rattle.directory.specs.declared.directories.Directory.{Ghosts as DirectoryOf
 use Rattle.rules.specs.Runs.{Run, run}
 use Rattle.market.specs.Markets.{capacity_of}
 use Rattle.book.specs.declared.state.Book.{Book}
-use Rattle.book.specs.Books.{book_of, Sound}
+use Rattle.book.specs.Books.{book_of}
 use Rattle.replay.specs.declared.calls.Call.{Call}
 use Rattle.replay.specs.declared.calls.Answer.{Answer}
 use Rattle.replay.specs.Told.{calls_of, answers_of}
 
 -- answers and book, as a run of the rule book has them
-abbrev pub run_of : {D T : Type 0} → TapeOf T → List Answer → Book D T → Run
-run_of t zs b = record { answers = answers_of zs; book = book_of t b }
+abbrev pub run_of : {D T : Type 0} {d : DirectoryOf D} {t : TapeOf T} → List Answer → Book D T d t → Run
+run_of {t = t} zs b = record { answers = answers_of zs; book = book_of t b.engine }
 
-pub record Followed {D T : Type 0} (d : DirectoryOf D) (t : TapeOf T) (before after : Book D T) (calls : List Call) (zs : List Answer) : Type 0 where
-  pub ran : run_of t zs after ≡ run (capacity_of t before.market) (calls_of calls) (book_of t before)
-  pub sound : Sound d t after
-  pub capacity : capacity_of t after.market ≡ capacity_of t before.market
-  pub room : after.room ≡ before.room
+pub record Followed {D T : Type 0} {d : DirectoryOf D} {t : TapeOf T} (before after : Book D T d t) (calls : List Call) (zs : List Answer) : Type 0 where
+  pub ran : run_of zs after ≡ run (capacity_of t before.engine.market) (calls_of calls) (book_of t before.engine)
+  pub capacity : capacity_of t after.engine.market ≡ capacity_of t before.engine.market

@@ -1,6 +1,7 @@
 -- Calls and answers as the rule book's.
-use Rattle.std.specs.Prelude.{List, map, vec_items}
+use Rattle.std.specs.Prelude.{List, map, Ok, Err, Result, vec_items}
 use Rattle.terms.specs.Made.{terms_of}
+use Rattle.rules.specs.declared.refusal.Refusal.{Refusal}
 use Rattle.rules.specs.Calls.{Call as RuleCall, entry, cancel, quote, tick}
 use Rattle.rules.specs.Answers.{Answer as RuleAnswer, entered, cancelled, quoted, ticked, refused}
 use Rattle.replay.specs.declared.calls.Call.{Call}
@@ -23,6 +24,11 @@ answer_of (Cancelled shares) = cancelled shares
 answer_of Quoted = quoted
 answer_of Ticked = ticked
 answer_of (Refused why) = refused why
+
+-- the answer of a call that may be refused
+abbrev pub told_of : Result Answer Refusal → RuleAnswer
+told_of (Ok a) = answer_of a
+told_of (Err why) = refused why
 
 abbrev pub answers_of : List Answer → List RuleAnswer
 answers_of zs = map answer_of zs

@@ -1,53 +1,46 @@
 // One call of a list.
 ghost use Rattle.std.specs.Prelude.{◌≡◌};
-ghost use Rattle.terms.specs.Made.{terms_of};
-ghost use Rattle.rules.specs.Calls.{entry};
-ghost use Rattle.book.specs.Books.{Sound};
 ghost use Rattle.book.specs.Carried.{Carried};
-ghost use Rattle.replay.specs.Told.{call_of, answer_of};
+ghost use Rattle.replay.specs.Told.{call_of, answer_of, told_of};
 
 use crate::calls::{Answer, Call};
 use book::state::Book;
 use directory::directories::Directory;
+use rules::refusal::Refusal;
 use tape::tapes::Tape;
-use terms::lawful::Ticket;
 
-// An entry by a second ticket, so that the first stays where it is.
-fn enter_again<D: Directory, T: Tape>(
+// What the book answers to the call, or why it refuses it. An entry is made by a second ticket, so that the first stays where
+// it is.
+fn answer_or_refuse<D: Directory, T: Tape>(
     book: &mut Book<D, T>,
-    time: u64,
-    id: &[u8],
-    ticket: &Ticket,
-) -> Answer
-    ensures { Sound D.Directory T.Tape book.old → Carried D.Directory T.Tape book.old book.new (entry time id.now (terms_of ticket.now.terms)) (answer_of result) }
+    call: &Call,
+) -> Result<Answer, Refusal>
+    ensures { Carried D.Directory T.Tape book.old.engine book.new.engine (call_of call.now) (told_of result) }
 {
-    match book.enter(time, id, ticket.again()) {
-        Ok(entered) => Answer::Entered {
-            number: entered.0,
-            traded: entered.1,
-            lapsed: entered.2,
-        },
-        Err(rejected) => Answer::Refused(rejected.why),
-    }
+    Ok(match call {
+        Call::Entry { time, id, ticket } => {
+            let (number, traded, lapsed) = book.enter(*time, id, ticket.again())?;
+            Answer::Entered {
+                number,
+                traded,
+                lapsed,
+            }
+        }
+        Call::Cancel { time, id } => Answer::Cancelled(book.cancel(*time, id)?),
+        Call::Quote { time, quote } => {
+            book.quote(*time, *quote)?;
+            Answer::Quoted
+        }
+        Call::Tick { time } => {
+            book.tick(*time)?;
+            Answer::Ticked
+        }
+    })
 }
 
 // The call is made, and its answer told; the list of calls stays as it is.
 pub fn carry_out<D: Directory, T: Tape>(book: &mut Book<D, T>, call: &Call) -> Answer
-    ensures { Sound D.Directory T.Tape book.old → Carried D.Directory T.Tape book.old book.new (call_of call.now) (answer_of result) }
+    ensures { Carried D.Directory T.Tape book.old.engine book.new.engine (call_of call.now) (answer_of result) }
 {
-    match call {
-        Call::Entry { time, id, ticket } => enter_again(book, *time, id.as_slice(), ticket),
-        Call::Cancel { time, id } => match book.cancel(*time, id.as_slice()) {
-            Ok(shares) => Answer::Cancelled(shares),
-            Err(why) => Answer::Refused(why),
-        },
-        Call::Quote { time, quote } => match book.quote(*time, *quote) {
-            Ok(()) => Answer::Quoted,
-            Err(why) => Answer::Refused(why),
-        },
-        Call::Tick { time } => match book.tick(*time) {
-            Ok(()) => Answer::Ticked,
-            Err(why) => Answer::Refused(why),
-        },
-    }
+    answer_or_refuse(book, call).unwrap_or_else(Answer::Refused)
 }

@@ -13,7 +13,8 @@ use std::alloc::Global;
 use tape::tapes::Tape;
 use terms::lawful::Quote;
 
-// Opens a book and replays the calls on it. It fails for want of memory or at a tape that has lines.
+// Opens a book and replays the calls on it. It fails for want of memory or at a tape that has lines. Each thing is
+// handed over once: a struct of them would be made only to be taken apart.
 pub fn play<D: Directory + Drop, T: Tape + Drop>(
     heap: Global,
     quote: Quote,
@@ -22,15 +23,10 @@ pub fn play<D: Directory + Drop, T: Tape + Drop>(
     calls: &[Call],
 ) -> Result<Played<D, T>, OpenRefusal>
     ensures { MatchResult result
-        (λ p. PlayedThrough D.Directory T.Tape quote.bid quote.offer tape calls.now p)
+        (λ p. PlayedThrough quote.bid quote.offer tape calls.now p)
         (λ why. Because T.Tape tape why) }
 {
-    let mut book = match Book::open(heap, quote, directory, tape) {
-        Ok(book) => book,
-        Err(not_opened) => return Err(not_opened.why),
-    };
-    match replay(heap, &mut book, calls) {
-        Ok(answers) => Ok(Played { answers, book }),
-        Err(_) => Err(OpenRefusal::NoMemory),
-    }
+    let mut book = Book::open(heap, quote, directory, tape)?;
+    let answers = replay(heap, &mut book, calls)?;
+    Ok(Played { answers, book })
 }

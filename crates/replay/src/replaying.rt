@@ -1,6 +1,5 @@
 // A list of calls on one book.
 ghost use Rattle.std.specs.Prelude.{◌≡◌, MatchResult};
-ghost use Rattle.book.specs.Books.{Sound};
 ghost use Rattle.replay.specs.Replayed.{Followed};
 
 use crate::calls::{Answer, Call};
@@ -16,8 +15,8 @@ pub fn replay<D: Directory, T: Tape>(
     book: &mut Book<D, T>,
     calls: &[Call],
 ) -> Result<Vec<Answer>, AllocError>
-    ensures { Sound D.Directory T.Tape book.old → MatchResult result
-        (λ v. Followed D.Directory T.Tape book.old book.new calls.now v.items)
+    ensures { MatchResult result
+        (λ v. Followed book.old book.new calls.now v.items)
         (λ _. book.new ≡ book.old) }
 {
     let mut answers = Vec::with_capacity(heap, calls.len())?;

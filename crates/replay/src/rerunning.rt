@@ -16,6 +16,7 @@ use terms::lawful::Quote;
 
 // Two lists of calls, each on a new book at the quote, with directories and tapes of any makes. The law of whole days holds of
 // whatever comes out: ticks cannot change who trades, the tape explains discretion, and neither book stands crossed.
+// Each thing is handed over once: a struct of them would be made only to be taken apart.
 pub fn rerun<D: Directory + Drop, T: Tape + Drop, E: Directory + Drop, U: Tape + Drop>(
     heap: Global,
     quote: Quote,
@@ -26,10 +27,10 @@ pub fn rerun<D: Directory + Drop, T: Tape + Drop, E: Directory + Drop, U: Tape +
     other_tape: U,
     other_calls: &[Call],
 ) -> Result<(Played<D, T>, Played<E, U>), OpenRefusal>
-    ensures first { MatchResult result (λ p. PlayedThrough D.Directory T.Tape quote.bid quote.offer tape calls.now p.0) (λ why. BecauseEither T.Tape tape U.Tape other_tape why) }
-    ensures second { IfOk result (λ p. PlayedThrough E.Directory U.Tape quote.bid quote.offer other_tape other_calls.now p.1) }
+    ensures first { MatchResult result (λ p. PlayedThrough quote.bid quote.offer tape calls.now p.0) (λ why. BecauseEither T.Tape tape U.Tape other_tape why) }
+    ensures second { IfOk result (λ p. PlayedThrough quote.bid quote.offer other_tape other_calls.now p.1) }
     ensures law { MatchResult result
-        (λ p. Law (calls_of calls.now) (run_of T.Tape p.0.answers.items p.0.book) (calls_of other_calls.now) (run_of U.Tape p.1.answers.items p.1.book))
+        (λ p. Law (calls_of calls.now) (run_of p.0.answers.items p.0.book) (calls_of other_calls.now) (run_of p.1.answers.items p.1.book))
         (λ _. Unit {0}) }
 {
     let first = play(heap, quote, directory, tape, calls)?;

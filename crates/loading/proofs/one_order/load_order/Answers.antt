@@ -1,15 +1,18 @@
-use Rattle.std.proofs.Common.{refl}
+use Rattle.std.proofs.Common.{rules}
+use Rattle.std.proofs.lemmas.Result.{err_from_is_err_and}
 use Rattle.terms.specs.Made.{ticket_terms}
 use Rattle.register.specs.Parts.{listed_of}
-use Rattle.loading.proofs.Attempts.{ticketed}
+use Rattle.loading.proofs.Attempts.{ticketed, entered_so, refused_so}
 use Rattle.loading.proofs.one_order.load_order.Goals as goal
 
-pub returns-in-Ok-enter : goal.returns-in-Ok-enter
-returns-in-Ok-enter g c sound =
-    ticketed g.D.Directory g.T.Tape c.args.time c.args.order.now.place (listed_of c.args.order.now) c.args.book.now c.enter.new.self (ticket_terms c.in-Ok.ticket)
-    _ _ c.in-Ok.ensures refl (c.in-Ok-enter.ensures.carried sound)
+pub returns-in_err-map_err : goal.returns-in_err-map_err
+returns-in_err-map_err g c =
+    let told = refused_so c.args.order.now.place c.in_err-map_err.field-0.0 c.enter.result _ c.in_err-map_err.ensures.cases (λ e h. search rules) in
+    let p = err_from_is_err_and c.from_residual-in_err-map_err.result c.from_residual-in_err-map_err.ensures.1 in
+    rw (p.1, p.2) (ticketed c.args.time c.args.order.now.place (listed_of c.args.order.now) c.args.book.now c.enter.new.self (ticket_terms c.in_ok-ticket.ticket)
+    _ _ c.in_ok-ticket.ensures told c.enter.ensures.carried)
 
-pub returns-in-Err-enter : goal.returns-in-Err-enter
-returns-in-Err-enter g c sound =
-    ticketed g.D.Directory g.T.Tape c.args.time c.args.order.now.place (listed_of c.args.order.now) c.args.book.now c.enter.new.self (ticket_terms c.in-Ok.ticket)
-    _ _ c.in-Ok.ensures refl (c.in-Err-enter.ensures.carried sound)
+pub returns : goal.returns
+returns g c =
+    ticketed c.args.time c.args.order.now.place (listed_of c.args.order.now) c.args.book.now c.enter.new.self (ticket_terms c.in_ok-ticket.ticket)
+    _ _ c.in_ok-ticket.ensures (entered_so c.args.order.now.place c.enter.result _ c.in_ok-map_err.ensures.cases) c.enter.ensures.carried

@@ -10,21 +10,19 @@ loop-call-init g c =
     let made = c.in_ok-answers.ensures in (
       search rules,
       search rules,
-      λ sound. followed_none g.D.Directory g.T.Tape c.args.book.now (vec_items c.in_ok-answers.answers) made.items sound,
+      followed_none c.args.book.now (vec_items c.in_ok-answers.answers) made.items,
     )
 
 pub loop-call-preserved : goal.loop-call-preserved
-loop-call-preserved g c =
-    let inv = c.loop-call.invariant in (
-      search rules,
-      search rules,
-      λ sound.
-          let so_far = inv.2 sound in
-          followed_more g.D.Directory g.T.Tape c.args.book.now c.loop-call.book c.carry_out.new.book c.args.calls.now c.loop-call.call-index c.call-item.result
-          (vec_items c.loop-call.answers) (vec_items c.push_reserved.new.self) c.carry_out.result c.loop-call-test.true c.call-item.is c.push_reserved.ensures.items so_far (c.carry_out.ensures so_far.sound),
-    )
+loop-call-preserved g c = (
+  search rules,
+  search rules,
+  followed_more c.args.book.now c.loop-call.book c.carry_out.new.book c.args.calls.now c.loop-call.call-index c.call-item.result
+      (vec_items c.loop-call.answers) (vec_items c.push_reserved.new.self) c.carry_out.result c.loop-call-test.true c.call-item.is c.push_reserved.ensures.items
+      c.loop-call.invariant.2 c.carry_out.ensures,
+)
 
 pub returns : goal.returns
-returns g c sound =
-    subst (λ (cs : List Call). Followed g.D.Directory g.T.Tape c.args.book.now c.loop-call.book cs (vec_items c.loop-call.answers))
-    (take_all c.loop-call.call-index c.args.calls.now c.loop-call-test.false) (c.loop-call.invariant.2 sound)
+returns g c =
+    subst (λ (cs : List Call). Followed c.args.book.now c.loop-call.book cs (vec_items c.loop-call.answers))
+    (take_all c.loop-call.call-index c.args.calls.now c.loop-call-test.false) c.loop-call.invariant.2

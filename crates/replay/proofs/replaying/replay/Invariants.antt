@@ -1,5 +1,4 @@
 use Rattle.std.proofs.Common.{◌≡◌, ◌≤◌, length, take, vec_items, vec_len, vec_capacity}
-use Rattle.book.specs.Books.{Sound}
 use Rattle.replay.specs.Replayed.{Followed}
 use Rattle.replay.proofs.replaying.replay.Given as goal
 
@@ -7,5 +6,4 @@ abbrev pub invariant-loop-call : goal.invariant-loop-call
 invariant-loop-call g l =
     (vec_len l.answers ≡ l.call-index)
     × (length l.calls ≤ vec_capacity l.answers)
-    × (Sound g.D.Directory g.T.Tape l.initial.book
-    → Followed g.D.Directory g.T.Tape l.initial.book l.book (take l.call-index l.calls) (vec_items l.answers))
+    × Followed l.initial.book l.book (take l.call-index l.calls) (vec_items l.answers)

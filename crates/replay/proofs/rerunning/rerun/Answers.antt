@@ -17,5 +17,5 @@ returns g c =
       second = second;
       law =
           law_of c.args.quote.bid c.args.quote.offer (t.free c.args.tape) (u.free c.args.other_tape) (calls_of c.args.calls.now) (calls_of c.args.other_calls.now)
-          (run_of t (vec_items p.answers) p.book) (run_of u (vec_items q.answers) q.book) first.ran second.ran;
+          (run_of (vec_items p.answers) p.book) (run_of (vec_items q.answers) q.book) first.ran second.ran;
     }

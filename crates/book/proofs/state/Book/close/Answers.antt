@@ -1,6 +1,4 @@
-use Rattle.std.proofs.Common.{refl}
 use Rattle.book.proofs.state.Book.close.Goals as goal
 
-pub returns : goal.returns
-returns g c =
-    record { figures = c.figures.ensures (g.T.Tape.lines c.args.self.market.tape); directory = refl; tape = refl }
+pub returns-clause-figures : goal.returns-clause-figures
+returns-clause-figures g c = c.figures.ensures (g.T.Tape.lines c.args.self.engine.market.tape)

@@ -1,5 +1,20 @@
+use Rattle.std.proofs.Common.{arith}
+use Rattle.rules.specs.Calls.{tick}
+use Rattle.book.specs.Carried.{Carried, tick_answer}
 use Rattle.book.proofs.Calling.{tick_carried}
 use Rattle.book.proofs.state.Book.tick.Goals as goal
+use Rattle.book.proofs.state.Book.tick.Goals.{After-advance}
+use Rattle.book.proofs.state.Book.tick.Given.{Over}
+
+ticked_so : (g : Over) (c : After-advance g) → Carried g.D.Directory g.T.Tape c.args.self.now.engine c.advance.new.self (tick c.args.time) (tick_answer c.advance.result)
+ticked_so g c =
+    let here = c.args.self.now in
+    tick_carried g.D.Directory g.T.Tape here.engine c.advance.new.self c.args.time c.advance.result here.sound (c.advance.ensures here.sound)
 
 pub returns : goal.returns
-returns g c sound = tick_carried g.D.Directory g.T.Tape c.args.self.now c.advance.new.self c.args.time c.advance.result sound (c.advance.ensures sound)
+returns g c = ticked_so g (goal.at.returns g c).After-advance
+
+pub invariant_of-self : goal.invariant_of-self
+invariant_of-self g c =
+    let carried = ticked_so g (goal.at.invariant_of-self g c).After-advance in
+    record { sound = carried.sound; knows_room = omega (arith, c.args.self.now.knows_room, carried.capacity, carried.room) }

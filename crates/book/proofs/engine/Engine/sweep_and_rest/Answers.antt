@@ -1,0 +1,44 @@
+-- The pair is put and the row joins, so that the directory is tied to the rows; sweeping changes shares alone.
+use Rattle.std.proofs.Common.{◌≡◌, ◌-◌, [], ◌∷◌, ◌++◌, vec_items, ap, ◌∙◌}
+use Rattle.terms.specs.Identifiers.{lawful_identifier}
+use Rattle.rules.specs.Market.{Market, resting}
+use Rattle.rules.specs.Answers.{entered}
+use Rattle.rules.specs.Calls.{left_of}
+use Rattle.book.specs.Tied.{row_name}
+use Rattle.book.proofs.Kept.{tied_kept}
+use Rattle.book.proofs.Joined.{row_joined, put_added}
+use Rattle.book.proofs.engine.Engine.sweep_and_rest.Goals as goal
+
+pub returns : goal.returns
+returns g c ready place =
+    let d = g.D.Directory in
+    let t = g.T.Tape in
+    let here = c.args.self.now in
+    let row = c.args.row in
+    let k = row.number in
+    let rows = vec_items here.market.table.rows in
+    let held = c.put.new.self in
+    let id = c.as_bytes.result.now in
+    let name : id ≡ row_name row = c.as_bytes.ensures in
+    let added =
+    put_added c.put.result id k (d.number here.directory) (d.number held) (d.count here.directory) (d.count held) c.put.ensures
+    (ap lawful_identifier name ∙ place.lawful) (ap (d.number here.directory) name ∙ place.fresh) place.free
+    in
+    let joined = row_joined row rows id (d.number here.directory) (d.number held) (d.count here.directory) (d.count held) name added ready.tied in
+    let market = c.sweep_in.ensures.market ready.day ready.joins ready.lines in
+    let left = c.shares_left-left.ensures ∙ ap (λ (m : Market). left_of (resting k m.orders)) market in
+    record {
+      answer = ap (λ n. entered k n 0) (c.saturating_sub.ensures ∙ ap (λ n. row.left - n) left);
+      market = c.tidy.ensures.market ∙ market;
+      tidied =
+          record {
+            tied = λ _.
+                c.tidy.ensures.tidied.tied
+                (tied_kept (d.number held) (d.count held) (rows ++ (row ∷ [])) (vec_items c.sweep_in.new.self.table.rows) (c.sweep_in.ensures.rows ready.joins) joined);
+            rests = c.tidy.ensures.tidied.rests;
+            capacity = c.tidy.ensures.tidied.capacity ∙ c.sweep_in.ensures.capacity;
+            room = c.tidy.ensures.tidied.room;
+          };
+      clock = c.tidy.ensures.clock;
+      entries = c.tidy.ensures.entries;
+    }

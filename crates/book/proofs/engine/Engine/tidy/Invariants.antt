@@ -1,0 +1,16 @@
+use Rattle.std.proofs.Common.{◌≡◌, vec_len}
+use Rattle.market.specs.Markets.{market_of}
+use Rattle.book.specs.Books.{BookTied}
+use Rattle.book.proofs.engine.Engine.tidy.Given as goal
+
+abbrev pub invariant-loop-identifier : goal.invariant-loop-identifier
+invariant-loop-identifier g l =
+    (BookTied g.D.Directory l.initial.self → BookTied g.D.Directory l.self)
+    × (market_of g.T.Tape l.self.market ≡ market_of g.T.Tape l.initial.self.market)
+    × (l.self.market.tape ≡ l.initial.self.market.tape)
+    × (l.self.clock ≡ l.initial.self.clock)
+    × (l.self.entries ≡ l.initial.self.entries)
+    × (l.self.room ≡ l.initial.self.room)
+
+abbrev pub decreases-loop-identifier : goal.decreases-loop-identifier
+decreases-loop-identifier g l = vec_len l.self.market.table.rows
