@@ -1,14 +1,20 @@
 // The lines of standard input, with their numbers.
 use anyhow::anyhow;
-use days::commands::Expected;
-use std::alloc::Global;
+use days::commands::{BadLine, Command, Expected, read_command};
 use std::io;
 use std::io::{BufRead, BufReader, Stdin};
 
 #[derive(Drop)]
 pub struct Input {
     reader: BufReader<Stdin>,
-    line: Vec<u8>,
+    text: Vec<u8>,
+    number: u64,
+}
+
+// A line, and which it is.
+#[derive(Clone, Copy, Drop)]
+pub struct InputLine<'a> {
+    text: &'a [u8],
     number: u64,
 }
 
@@ -16,41 +22,44 @@ impl Input {
     pub fn new(rt: &HostRuntime) -> io::Result<Input> {
         Ok(Input {
             reader: BufReader::new(rt.alloc(), rt.stdin())?,
-            line: Vec::new(rt.alloc()),
+            text: Vec::new(rt.alloc()),
             number: 0,
         })
     }
 
-    // Reads the next line; false at the end.
-    pub fn next(&mut self) -> io::Result<bool> {
-        self.line.clear();
+    // Reads the next line; None at the end.
+    pub fn next_line(&mut self) -> io::Result<Option<InputLine<'_>>> {
+        self.text.clear();
         self.number = self.number.saturating_add(1);
-        let count = self.reader.read_until(b'\n', &mut self.line)?;
-        Ok(count > 0)
-    }
-
-    pub fn line(&self) -> &[u8] {
-        self.line.as_slice()
+        let count = self.reader.read_until(b'\n', &mut self.text)?;
+        if count == 0 {
+            return Ok(None);
+        }
+        Ok(Some(InputLine {
+            text: self.text.as_slice(),
+            number: self.number,
+        }))
     }
 
     // Nothing more has come yet, so that reading on may have to wait.
     pub fn may_wait(&self) -> bool {
         self.reader.buffer().is_empty()
     }
+}
 
-    pub fn bad_line(&self, heap: Global, expected: Expected) -> anyhow::Error {
-        let number = self.number;
-        match format!(in heap; "line {number}: {expected}") {
-            Ok(text) => anyhow!(text),
-            Err(e) => e.into(),
-        }
+impl<'a> InputLine<'a> {
+    // The command of the line, where it has one.
+    pub fn command(self) -> Result<Option<Command<'a>>, BadLine> {
+        read_command(self.text).map_err(|expected| self.bad(expected))
     }
 
-    pub fn failed(&self, heap: Global, what: &str, file: &str) -> anyhow::Error {
+    pub fn bad(self, expected: Expected) -> BadLine {
         let number = self.number;
-        match format!(in heap; "line {number}: cannot {what} {file}") {
-            Ok(text) => anyhow!(text),
-            Err(e) => e.into(),
-        }
+        BadLine { number, expected }
+    }
+
+    pub fn failed(self, what: &str, file: &str) -> anyhow::Error {
+        let number = self.number;
+        anyhow!("line {number}: cannot {what} {file}")
     }
 }

@@ -10,38 +10,35 @@ mod tapes;
 use crate::input::Input;
 use crate::options::Options;
 use crate::tapes::serve_on;
-use days::commands::{Command, Expected, read_command};
+use days::commands::{Command, Expected};
 use std::process::ExitCode;
 use std::{env, io};
 use terms::lawful::Quote;
 
 // The first command must open the book.
 fn run(rt: &HostRuntime) -> anyhow::Result<()> {
-    let heap = rt.alloc();
-    let args: Vec<String> = env::args(rt)?.collect(heap)?;
-    let options = Options::read(heap, args.as_slice())?;
+    let args: Vec<String> = env::args(rt)?.skip(1).collect(rt.alloc())?;
+    let options = Options::read(args.as_slice())?;
     let mut input = Input::new(rt)?;
+    // The reader is handed on, so that no `for` can own it, and no measure falls where input is waited for, so that `while let`
+    // cannot be shown to end: the lines are counted.
     for _ in 0..u64::MAX {
-        if !input.next()? {
-            return Ok(());
-        }
-        match read_command(input.line()) {
-            Ok(None) => {}
-            Ok(Some(Command::Book { bid, offer, lines })) => match Quote::new(bid, offer) {
+        let Some(line) = input.next_line()? else {
+            break;
+        };
+        match line.command()? {
+            None => {}
+            Some(Command::Book { bid, offer, lines }) => match Quote::new(bid, offer) {
                 Ok(quote) => return serve_on(rt, &mut input, options, quote, lines),
-                Err(why) => {
-                    let number = why.number();
-                    println!(rt; "refused {number}")?;
-                    return Ok(());
-                }
+                Err(why) => return Ok(println!(rt; "refused {}", why.number())?),
             },
-            Ok(Some(_)) => return Err(input.bad_line(heap, Expected::Book)),
-            Err(expected) => return Err(input.bad_line(heap, expected)),
+            Some(_) => return Err(line.bad(Expected::Book).into()),
         }
     }
     Ok(())
 }
 
+// As in the other programs that print their own faults: they share no library of ours that prints.
 fn main(rt: HostRuntime) -> io::Result<ExitCode> {
     match run(&rt) {
         Ok(()) => Ok(ExitCode::SUCCESS),

@@ -1,38 +1,35 @@
-// The two commands that reach files.
-use crate::input::Input;
-use anyhow::anyhow;
+// The two commands that reach files. Each takes the parts that it uses: writing only looks at the desk.
+use crate::input::InputLine;
+use anyhow::Context;
 use days::desk::Desk;
 use days::telling::Output;
 use directory::directories::Directory;
 use std::fs;
 use tape::tapes::Tape;
 
-fn path<'a>(file: &'a [u8]) -> anyhow::Result<&'a str> {
-    match std::str::from_utf8(file) {
-        Ok(path) => Ok(path),
-        Err(_) => Err(anyhow!("a file's name is not text")),
-    }
+fn path(file: &[u8]) -> anyhow::Result<&str> {
+    std::str::from_utf8(file).context("a file's name is not text")
 }
 
 pub fn load<D: Directory, T: Tape>(
     rt: &HostRuntime,
-    input: &Input,
+    line: InputLine<'_>,
     desk: &mut Desk<D, T>,
     time: u64,
     file: &[u8],
     out: &mut Output,
 ) -> anyhow::Result<()> {
     let file = path(file)?;
-    match fs::read(rt, file) {
-        Ok(register) => Ok(desk.load(time, register.as_slice(), out)?),
-        Err(_) => Err(input.failed(rt.alloc(), "read", file)),
-    }
+    let Ok(register) = fs::read(rt, file) else {
+        return Err(line.failed("read", file));
+    };
+    Ok(desk.load(time, register.as_slice(), out)?)
 }
 
 // A register of 64 orders fits: each takes at most 49 bytes.
 pub fn write<D: Directory, T: Tape>(
     rt: &HostRuntime,
-    input: &Input,
+    line: InputLine<'_>,
     desk: &Desk<D, T>,
     file: &[u8],
     out: &mut Output,
@@ -45,8 +42,5 @@ pub fn write<D: Directory, T: Tape>(
     let Some(register) = buffer.get(0..written) else {
         return Ok(());
     };
-    match fs::write(rt, file, register) {
-        Ok(()) => Ok(()),
-        Err(_) => Err(input.failed(rt.alloc(), "write", file)),
-    }
+    fs::write(rt, file, register).map_err(|_| line.failed("write", file))
 }

@@ -1,6 +1,5 @@
 -- Whole numbers in text.
-use Rattle.std.specs.Prelude.{ℕ, ◌+◌, ◌-◌, ◌*◌, ◌^◌, min, Bool, true, false, ◌&&◌, List, [], ◌∷◌, Some, None, Option, ◌==◌, nat_le}
-use Rattle.days.specs.declared.numbers.Whole.{Whole}
+use Rattle.std.specs.Prelude.{ℕ, ◌+◌, ◌-◌, ◌*◌, ◌^◌, min, true, false, ◌&&◌, List, [], ◌∷◌, Some, None, Option, option_map, ℤ, pos, negsuc, neg_ℤ, ◌==◌, nat_le}
 
 -- the largest number of 64 bits
 abbrev pub most : ℕ
@@ -19,15 +18,12 @@ abbrev pub size_in : List ℕ → Option ℕ
 size_in [] = None
 size_in (b ∷ bs) = size_on 0 (b ∷ bs)
 
-abbrev pub signed : Bool → Option ℕ → Option Whole
-signed negative None = None
-signed negative (Some size) = Some (record { negative = negative; size = size })
-
 -- digits, which a minus may precede
-abbrev pub whole_in : List ℕ → Option Whole
+abbrev pub whole_in : List ℕ → Option ℤ
 whole_in [] = None
-whole_in (b ∷ bs) = elim (b == 45) [ true ↦ signed true (size_in bs) | false ↦ signed false (size_in (b ∷ bs)) ]
+whole_in (b ∷ bs) = elim (b == 45) [ true ↦ option_map (λ n. neg_ℤ (pos n)) (size_in bs) | false ↦ option_map pos (size_in (b ∷ bs)) ]
 
 -- the number in a field that holds 0 to `top`
-abbrev pub within : ℕ → Whole → ℕ
-within top w = elim w.negative [ true ↦ elim (nat_le w.size 0) [ true ↦ 0 | false ↦ top ] | false ↦ min w.size top ]
+abbrev pub within : ℕ → ℤ → ℕ
+within top (pos n) = min n top
+within top (negsuc n) = top

@@ -1,6 +1,7 @@
 // A line of a day file: what it asks for, or what was expected of it.
-use crate::numbers::Whole;
+use crate::numbers::{as_offset, as_u8, as_u32, as_u64, whole};
 use crate::words::Words;
+use std::error::Error;
 use std::fmt;
 use terms::kinds::Draft;
 
@@ -46,6 +47,13 @@ pub enum Command<'a> {
     Close,
 }
 
+// A line that is none, and the form that it should have had.
+#[derive(Clone, Copy, PartialEq, Eq, Debug, Drop)]
+pub struct BadLine {
+    pub number: u64,
+    pub expected: Expected,
+}
+
 // The form that a line should have had.
 #[derive(Clone, Copy, PartialEq, Eq, Debug, Drop)]
 pub enum Expected {
@@ -62,9 +70,9 @@ pub enum Expected {
     Close,
 }
 
-impl Expected {
-    pub(crate) fn form(self) -> &'static str {
-        match self {
+impl fmt::Display for Expected {
+    fn fmt<W: fmt::Write>(&self, f: &mut fmt::Formatter<W>) -> fmt::Result {
+        let form = match self {
             Expected::Command => "book, entry, cancel, quote, tick, ask, why, load, write or close",
             Expected::Book => "book BID OFFER LINES, once, before all else",
             Expected::Entry => "entry TIME ID SIDE KIND TIF QDP SHARES LIMIT OFFSET",
@@ -76,137 +84,138 @@ impl Expected {
             Expected::Load => "load TIME FILE",
             Expected::Write => "write FILE",
             Expected::Close => "close",
-        }
-    }
-}
-
-impl fmt::Display for Expected {
-    fn fmt<W: fmt::Write>(&self, f: &mut fmt::Formatter<W>) -> fmt::Result {
-        let form = self.form();
+        };
         write!(f, "expected {form}")
     }
 }
 
+impl fmt::Display for BadLine {
+    fn fmt<W: fmt::Write>(&self, f: &mut fmt::Formatter<W>) -> fmt::Result {
+        let BadLine { number, expected } = *self;
+        write!(f, "line {number}: {expected}")
+    }
+}
+
+impl Error for BadLine {}
+
+impl Expected {
+    // The form of the command of that name.
+    fn named(name: &[u8]) -> Expected {
+        match name {
+            b"book" => Expected::Book,
+            b"entry" => Expected::Entry,
+            b"cancel" => Expected::Cancel,
+            b"quote" => Expected::Quote,
+            b"tick" => Expected::Tick,
+            b"ask" => Expected::Ask,
+            b"why" => Expected::Why,
+            b"load" => Expected::Load,
+            b"write" => Expected::Write,
+            b"close" => Expected::Close,
+            _ => Expected::Command,
+        }
+    }
+}
+
 impl<'a> Words<'a> {
-    fn number(&mut self) -> Option<Whole> {
-        Whole::read(self.next_word()?)
+    fn number(&mut self) -> Option<i128> {
+        whole(self.next()?)
     }
 
     fn draft(&mut self) -> Option<Draft> {
         Some(Draft {
-            side: self.number()?.as_u8(),
-            kind: self.number()?.as_u8(),
-            time_in_force: self.number()?.as_u8(),
-            qdp: self.number()?.as_u8(),
-            shares: self.number()?.as_u32(),
-            limit: self.number()?.as_u32(),
-            offset: self.number()?.as_offset(),
+            side: as_u8(self.number()?),
+            kind: as_u8(self.number()?),
+            time_in_force: as_u8(self.number()?),
+            qdp: as_u8(self.number()?),
+            shares: as_u32(self.number()?),
+            limit: as_u32(self.number()?),
+            offset: as_offset(self.number()?),
         })
     }
 
     fn entry(&mut self) -> Option<Command<'a>> {
-        let time = self.number()?.as_u64();
-        let id = self.next_word()?;
+        let time = as_u64(self.number()?);
+        let id = self.next()?;
         let draft = self.draft()?;
         Some(Command::Entry { time, id, draft })
     }
 
     fn cancel(&mut self) -> Option<Command<'a>> {
-        let time = self.number()?.as_u64();
-        let id = self.next_word()?;
+        let time = as_u64(self.number()?);
+        let id = self.next()?;
         Some(Command::Cancel { time, id })
     }
 
     fn quote(&mut self) -> Option<Command<'a>> {
-        let time = self.number()?.as_u64();
-        let bid = self.number()?.as_u32();
-        let offer = self.number()?.as_u32();
+        let time = as_u64(self.number()?);
+        let bid = as_u32(self.number()?);
+        let offer = as_u32(self.number()?);
         Some(Command::Quote { time, bid, offer })
     }
 
     fn book(&mut self) -> Option<Command<'a>> {
-        let bid = self.number()?.as_u32();
-        let offer = self.number()?.as_u32();
-        let lines = self.number()?.as_u64();
+        let bid = as_u32(self.number()?);
+        let offer = as_u32(self.number()?);
+        let lines = as_u64(self.number()?);
         Some(Command::Book { bid, offer, lines })
     }
 
     fn load(&mut self) -> Option<Command<'a>> {
-        let time = self.number()?.as_u64();
-        let file = self.next_word()?;
+        let time = as_u64(self.number()?);
+        let file = self.next()?;
         Some(Command::Load { time, file })
     }
 
     fn tick(&mut self) -> Option<Command<'a>> {
-        let time = self.number()?.as_u64();
+        let time = as_u64(self.number()?);
         Some(Command::Tick { time })
     }
 
     fn ask(&mut self) -> Option<Command<'a>> {
-        let side = self.number()?.as_u8();
-        let place = self.number()?.as_u64();
+        let side = as_u8(self.number()?);
+        let place = as_u64(self.number()?);
         Some(Command::Ask { side, place })
     }
 
-    // The command of that name, with what belongs to it; whether more words follow is not asked here.
-    fn command(&mut self, name: &[u8]) -> Result<Command<'a>, Expected> {
-        match name {
-            b"entry" => self.entry().ok_or(Expected::Entry),
-            b"cancel" => self.cancel().ok_or(Expected::Cancel),
-            b"quote" => self.quote().ok_or(Expected::Quote),
-            b"tick" => self.tick().ok_or(Expected::Tick),
-            b"ask" => self.ask().ok_or(Expected::Ask),
-            b"book" => self.book().ok_or(Expected::Book),
-            b"load" => self.load().ok_or(Expected::Load),
-            _ => self.word_command(name),
-        }
+    fn why(&mut self) -> Option<Command<'a>> {
+        let id = self.next()?;
+        Some(Command::Why { id })
     }
 
-    fn word_command(&mut self, name: &[u8]) -> Result<Command<'a>, Expected> {
-        match name {
-            b"why" => match self.next_word() {
-                Some(id) => Ok(Command::Why { id }),
-                None => Err(Expected::Why),
-            },
-            b"write" => match self.next_word() {
-                Some(file) => Ok(Command::Write { file }),
-                None => Err(Expected::Write),
-            },
-            b"close" => Ok(Command::Close),
-            _ => Err(Expected::Command),
-        }
+    fn write(&mut self) -> Option<Command<'a>> {
+        let file = self.next()?;
+        Some(Command::Write { file })
     }
-}
 
-impl Command<'_> {
-    fn form(&self) -> Expected {
-        match self {
-            Command::Book { .. } => Expected::Book,
-            Command::Entry { .. } => Expected::Entry,
-            Command::Cancel { .. } => Expected::Cancel,
-            Command::Quote { .. } => Expected::Quote,
-            Command::Tick { .. } => Expected::Tick,
-            Command::Ask { .. } => Expected::Ask,
-            Command::Why { .. } => Expected::Why,
-            Command::Load { .. } => Expected::Load,
-            Command::Write { .. } => Expected::Write,
-            Command::Close => Expected::Close,
-        }
+    // What follows a command's name; nothing may be left over.
+    fn command(&mut self, form: Expected) -> Option<Command<'a>> {
+        let command = match form {
+            Expected::Command => None,
+            Expected::Book => self.book(),
+            Expected::Entry => self.entry(),
+            Expected::Cancel => self.cancel(),
+            Expected::Quote => self.quote(),
+            Expected::Tick => self.tick(),
+            Expected::Ask => self.ask(),
+            Expected::Why => self.why(),
+            Expected::Load => self.load(),
+            Expected::Write => self.write(),
+            Expected::Close => Some(Command::Close),
+        };
+        command.filter(|_| self.next().is_none())
     }
 }
 
 // None for an empty line and for one whose first word begins with #.
 pub fn read_command<'a>(line: &'a [u8]) -> Result<Option<Command<'a>>, Expected> {
     let mut words = Words::new(line);
-    let Some(name) = words.next_word() else {
+    let Some(name) = words.next() else {
         return Ok(None);
     };
-    if let [b'#', ..] = name {
+    if name.starts_with(b"#") {
         return Ok(None);
     }
-    let command = words.command(name)?;
-    if words.next_word().is_some() {
-        return Err(command.form());
-    }
-    Ok(Some(command))
+    let form = Expected::named(name);
+    words.command(form).map(Some).ok_or(form)
 }

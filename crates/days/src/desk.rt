@@ -1,5 +1,6 @@
 // A desk: a book, and how many of its trades have been told.
-use crate::commands::{Command, Expected};
+use crate::commands::Command;
+use crate::refused::Refused;
 use crate::telling::Output;
 use book::refusals::OpenRefusal;
 use book::state::Book;
@@ -18,83 +19,59 @@ pub struct Desk<D: Directory, T: Tape> {
 impl<D: Directory, T: Tape> Desk<D, T> {
     // The trades that have come since they were last told.
     pub(crate) fn tell_trades(&mut self, out: &mut Output) -> Result<(), AllocError> {
-        for _ in 0..u64::MAX {
-            let place = self.told.saturating_add(1);
-            let Some(line) = self.book.line(place) else {
-                break;
-            };
-            out.trade(line)?;
+        for place in self.told.saturating_add(1)..=self.book.lines() {
+            if let Some(line) = self.book.line(place) {
+                out.trade(line)?;
+            }
             self.told = place;
         }
         Ok(())
     }
 
-    fn entry(
+    fn entry(&mut self, time: u64, id: &[u8], draft: Draft) -> Result<[u64; 3], Refused> {
+        let ticket = Ticket::new(draft)?;
+        let (number, traded, lapsed) = self.book.enter(time, id, ticket)?;
+        Ok([u64::from(number), u64::from(traded), u64::from(lapsed)])
+    }
+
+    fn cancel(&mut self, time: u64, id: &[u8]) -> Result<[u64; 1], Refused> {
+        let shares = self.book.cancel(time, id)?;
+        Ok([u64::from(shares)])
+    }
+
+    fn quote(&mut self, time: u64, bid: u32, offer: u32) -> Result<[u64; 0], Refused> {
+        let quote = Quote::new(bid, offer)?;
+        self.book.quote(time, quote)?;
+        Ok([])
+    }
+
+    fn tick(&mut self, time: u64) -> Result<[u64; 0], Refused> {
+        self.book.tick(time)?;
+        Ok([])
+    }
+
+    // Answers a command that asks for the book alone, with the trades that it made. None for any other, for which programs that play
+    // examples have errors of their own; the day answers the others itself.
+    pub fn answer(
         &mut self,
-        time: u64,
-        id: &[u8],
-        draft: Draft,
+        command: &Command,
         out: &mut Output,
-    ) -> Result<(), AllocError> {
-        match Ticket::new(draft) {
-            Ok(ticket) => match self.book.enter(time, id, ticket) {
-                Ok(entered) => out.line(
-                    "entered",
-                    &[
-                        u64::from(entered.0),
-                        u64::from(entered.1),
-                        u64::from(entered.2),
-                    ],
-                ),
-                Err(rejected) => out.refusal(rejected.why),
-            },
-            Err(why) => out.refused(why.number()),
-        }
-    }
-
-    fn cancel(&mut self, time: u64, id: &[u8], out: &mut Output) -> Result<(), AllocError> {
-        match self.book.cancel(time, id) {
-            Ok(shares) => out.line("cancelled", &[u64::from(shares)]),
-            Err(why) => out.refusal(why),
-        }
-    }
-
-    fn quote(
-        &mut self,
-        time: u64,
-        bid: u32,
-        offer: u32,
-        out: &mut Output,
-    ) -> Result<(), AllocError> {
-        match Quote::new(bid, offer) {
-            Ok(quote) => match self.book.quote(time, quote) {
-                Ok(()) => out.line("quoted", &[]),
-                Err(why) => out.refusal(why),
-            },
-            Err(why) => out.refused(why.number()),
-        }
-    }
-
-    fn tick(&mut self, time: u64, out: &mut Output) -> Result<(), AllocError> {
-        match self.book.tick(time) {
-            Ok(()) => out.line("ticked", &[]),
-            Err(why) => out.refusal(why),
-        }
-    }
-
-    // Answers a command that asks for the book alone, with the trades that it made. False for any other.
-    pub fn answer(&mut self, command: &Command, out: &mut Output) -> Result<bool, AllocError> {
+    ) -> Result<Option<()>, AllocError> {
         match command {
-            Command::Entry { time, id, draft } => self.entry(*time, id, *draft, out)?,
-            Command::Cancel { time, id } => self.cancel(*time, id, out)?,
-            Command::Quote { time, bid, offer } => self.quote(*time, *bid, *offer, out)?,
-            Command::Tick { time } => self.tick(*time, out)?,
+            Command::Entry { time, id, draft } => {
+                out.answer("entered", self.entry(*time, id, *draft))?
+            }
+            Command::Cancel { time, id } => out.answer("cancelled", self.cancel(*time, id))?,
+            Command::Quote { time, bid, offer } => {
+                out.answer("quoted", self.quote(*time, *bid, *offer))?
+            }
+            Command::Tick { time } => out.answer("ticked", self.tick(*time))?,
             Command::Ask { side, place } => out.standing(self.book.ask(*side, *place as usize))?,
             Command::Why { id } => out.explanation(self.book.why(id))?,
-            _ => return Ok(false),
+            _ => return Ok(None),
         }
         self.tell_trades(out)?;
-        Ok(true)
+        Ok(Some(()))
     }
 }
 
@@ -105,10 +82,9 @@ impl<D: Directory + Drop, T: Tape + Drop> Desk<D, T> {
         directory: D,
         tape: T,
     ) -> Result<Desk<D, T>, OpenRefusal> {
-        match Book::open(heap, quote, directory, tape) {
-            Ok(book) => Ok(Desk { book, told: 0 }),
-            Err(not_opened) => Err(not_opened.why),
-        }
+        Book::open(heap, quote, directory, tape)
+            .map(|book| Desk { book, told: 0 })
+            .map_err(|not_opened| not_opened.why)
     }
 
     pub fn close(self, out: &mut Output) -> Result<(), AllocError> {

@@ -4,6 +4,7 @@
 pub mod commands;
 pub mod desk;
 mod numbers;
+mod refused;
 pub mod registers;
 pub mod telling;
-pub mod words;
+mod words;

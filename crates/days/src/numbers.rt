@@ -1,14 +1,7 @@
 // Whole numbers in text. One too large for its field, or below 0 where that is not possible, becomes the field's largest value,
 // which no rule allows, so that it is refused as out of range.
 ghost use Rattle.std.specs.Prelude.{◌≡◌, ◌-◌, ◌^◌};
-ghost use Rattle.days.specs.Numbers.{most, size_from, size_in, signed as signed_of, whole_in, within};
-
-// A size past 64 bits is the largest that they hold.
-#[derive(Clone, Copy, PartialEq, Eq, Debug, Drop)]
-pub(crate) struct Whole {
-    pub(crate) negative: bool,
-    pub(crate) size: u64,
-}
+ghost use Rattle.days.specs.Numbers.{most, size_from, size_in, whole_in, within};
 
 fn with_digit(size: u64, byte: u8) -> Option<u64>
     ensures { result ≡ size_from size byte }
@@ -22,68 +15,51 @@ fn with_digit(size: u64, byte: u8) -> Option<u64>
     }
 }
 
-// None where there is no digit, or something else.
+// None where there is no digit, or something else. A size past 64 bits is the largest that they hold.
+#[tactic(auto, unfolding(crate::specs::Numbers::size_on))]
 fn size_in(digits: &[u8]) -> Option<u64>
     ensures { result ≡ size_in digits.now }
 {
     if digits.is_empty() {
         return None;
     }
-    let mut size: u64 = 0;
+    // try_fold was tried: what it gives stayed open.
+    let mut size = 0;
     for byte in digits {
-        let Some(more) = with_digit(size, *byte) else {
-            return None;
-        };
-        size = more;
+        size = with_digit(size, *byte)?;
     }
     Some(size)
 }
 
-fn signed(negative: bool, size: Option<u64>) -> Option<Whole>
-    ensures { result ≡ signed_of negative size }
+// Digits, which a minus may precede.
+pub(crate) fn whole(word: &[u8]) -> Option<i128>
+    ensures { result ≡ whole_in word.now }
 {
-    match size {
-        Some(size) => Some(Whole { negative, size }),
-        None => None,
+    match word {
+        [b'-', digits @ ..] => size_in(digits).map(|size| -i128::from(size)),
+        digits => size_in(digits).map(|size| i128::from(size)),
     }
 }
 
-impl Whole {
-    // Digits, which a minus may precede.
-    pub(crate) fn read(word: &[u8]) -> Option<Whole>
-        ensures { result ≡ whole_in word.now }
-    {
-        if word.is_empty() || word[0] != b'-' {
-            return signed(false, size_in(word));
-        }
-        signed(true, size_in(&word[1..]))
-    }
+pub(crate) fn as_u64(number: i128) -> u64
+    ensures { result ≡ within most number }
+{
+    u64::try_from(number).unwrap_or(u64::MAX)
+}
 
-    pub(crate) fn as_u64(self) -> u64
-        ensures { result ≡ within most self }
-    {
-        if self.negative && self.size > 0 {
-            u64::MAX
-        } else {
-            self.size
-        }
-    }
+pub(crate) fn as_u32(number: i128) -> u32
+    ensures { result ≡ within (2 ^ 32 - 1) number }
+{
+    u32::try_from(number).unwrap_or(u32::MAX)
+}
 
-    pub(crate) fn as_u32(self) -> u32
-        ensures { result ≡ within (2 ^ 32 - 1) self }
-    {
-        u32::try_from(self.as_u64()).unwrap_or(u32::MAX)
-    }
+pub(crate) fn as_u8(number: i128) -> u8
+    ensures { result ≡ within 255 number }
+{
+    u8::try_from(number).unwrap_or(u8::MAX)
+}
 
-    pub(crate) fn as_u8(self) -> u8
-        ensures { result ≡ within 255 self }
-    {
-        u8::try_from(self.as_u64()).unwrap_or(u8::MAX)
-    }
-
-    // An offset of more than 16 bits is out of range as well as one of 1,000.
-    pub(crate) fn as_offset(self) -> i32 {
-        let size = i32::try_from(self.size.min(1000)).unwrap_or(1000);
-        if self.negative { -size } else { size }
-    }
+// An offset of more than 16 bits is out of range as well as one of 1,000.
+pub(crate) fn as_offset(number: i128) -> i32 {
+    number.clamp(-1000, 1000) as i32
 }

@@ -14,11 +14,8 @@ use tape::tapes::Tape;
 const SLIPS: usize = 64;
 
 fn tell_slips(slips: &Roll<'_, Slip>, out: &mut Output) -> Result<(), AllocError> {
-    let count = slips.len();
-    for i in 0..count {
-        if let Some(slip) = slips.get(i + 1) {
-            out.slip("slip", slip)?;
-        }
+    for slip in slips.as_slice() {
+        out.slip("slip", *slip)?;
     }
     Ok(())
 }
@@ -33,12 +30,7 @@ fn tell_end(ended: Result<Loaded, LoadFault>, out: &mut Output) -> Result<(), Al
 impl<D: Directory, T: Tape> Desk<D, T> {
     // The slips, how the load ended, and the trades that it made.
     pub fn load(&mut self, time: u64, register: &[u8], out: &mut Output) -> Result<(), AllocError> {
-        let blank = Slip {
-            number: 0,
-            layer: 0,
-            place: 0,
-        };
-        let mut room = [blank; SLIPS];
+        let mut room = [Slip::default(); SLIPS];
         let mut slips = Roll::new(&mut room);
         let ended = load(&mut self.book, time, register, &mut slips);
         tell_slips(&slips, out)?;

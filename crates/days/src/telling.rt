@@ -1,10 +1,11 @@
 // Answers as lines of text. They consist of words and numbers alone, and are written without a formatter, for speed.
+use crate::refused::Refused;
 use book::explanation::Explanation;
+use itoa::Buffer;
 use loading::slips::Slip;
 use questions::told::{Figures, Standing, Why};
-use rules::refusal::Refusal;
 use std::alloc::{AllocError, Global};
-use tape::line::{Line, Mark};
+use tape::line::Line;
 
 // Text that answers are gathered in until it is printed.
 #[derive(Drop)]
@@ -41,18 +42,10 @@ impl Output {
 
     // A blank and a number in the decimal system.
     fn number(&mut self, number: u64) -> Result<(), AllocError> {
-        let mut digits = [b' '; 21];
-        let mut left = number;
-        let mut first = 21usize;
-        for place in (1..21usize).rev() {
-            digits[place] = b'0' + (left % 10) as u8;
-            left /= 10;
-            first = place;
-            if left == 0 {
-                break;
-            }
-        }
-        self.bytes.extend_from_slice(&digits[first - 1..21])
+        let mut digits = Buffer::new();
+        self.bytes.push(b' ')?;
+        self.bytes
+            .extend_from_slice(digits.format(number).as_bytes())
     }
 
     fn numbers(&mut self, numbers: &[u64]) -> Result<(), AllocError> {
@@ -80,8 +73,16 @@ impl Output {
         self.line(word, &[number, layer, slip.place as u64])
     }
 
-    pub(crate) fn refusal(&mut self, why: Refusal) -> Result<(), AllocError> {
-        self.refused(why.number())
+    // The word and the numbers of what was done, or the refusal.
+    pub(crate) fn answer<const N: usize>(
+        &mut self,
+        word: &str,
+        answer: Result<[u64; N], Refused>,
+    ) -> Result<(), AllocError> {
+        match answer {
+            Ok(numbers) => self.line(word, &numbers),
+            Err(why) => self.refused(why.number()),
+        }
     }
 
     pub(crate) fn standing(&mut self, standing: Option<Standing>) -> Result<(), AllocError> {
@@ -114,11 +115,7 @@ impl Output {
     }
 
     pub(crate) fn trade(&mut self, line: Line) -> Result<(), AllocError> {
-        let mark = match line.mark {
-            Mark::Nothing => 0,
-            Mark::BidDepleted => 1,
-            Mark::OfferDepleted => 2,
-        };
+        let mark = u64::from(u8::from(line.mark));
         let partner = u64::from(line.partner);
         let taker = u64::from(line.taker);
         let shares = u64::from(line.shares);
@@ -130,10 +127,10 @@ impl Output {
         self.line(
             "closed",
             &[
-                figures.buys,
-                figures.buy_shares,
-                figures.sells,
-                figures.sell_shares,
+                figures.buy.orders,
+                figures.buy.shares,
+                figures.sell.orders,
+                figures.sell.shares,
             ],
         )
     }

@@ -1,7 +1,7 @@
 // Examples, as their file has them.
-ghost use Rattle.std.specs.Prelude.{◌≡◌, ◌∷◌, ◌++◌, string_bytes, Decides, MatchOption};
+ghost use Rattle.std.specs.Prelude.{◌≡◌, ◌∷◌, ◌++◌, ◌<◌, ◌≤◌, length, string_bytes, Decides, IfOk, MatchOption, OnSome};
 
-use anyhow::anyhow;
+use anyhow::{Context, anyhow};
 use std::alloc::{AllocError, Global};
 use terms::lawful::Quote;
 
@@ -46,9 +46,10 @@ impl<'a> Reader<'a> {
 
     // What follows the mark on the next line. Where the line has another mark it is left.
     fn after(&mut self, mark: &str) -> Option<&'a str>
-        ensures { MatchOption result
+        ensures taken { MatchOption result
             (self.new.rest.now ≡ self.old.rest.now)
             (λ words. self.old.rest.now ≡ mark.now ++ words.now ++ (10 ∷ self.new.rest.now)) }
+        ensures shorter { OnSome result (length self.new.rest.now < length self.old.rest.now) }
     {
         let text = self.rest;
         let (line, rest) = text.split_once('\n')?;
@@ -58,76 +59,74 @@ impl<'a> Reader<'a> {
     }
 
     // The next lines that have the mark.
-    fn all_after(&mut self, heap: Global, mark: &str) -> Result<Vec<&'a str>, AllocError> {
+    fn all_after(&mut self, heap: Global, mark: &str) -> Result<Vec<&'a str>, AllocError>
+        ensures { length self.new.rest.now ≤ length self.old.rest.now }
+    {
         let mut found = Vec::new(heap);
-        for _ in 0..u64::MAX {
-            let Some(words) = self.after(mark) else {
-                break;
-            };
+        while let Some(words) = self.after(mark) {
             found.push(words)?;
         }
         Ok(found)
     }
 
-    fn quote(&mut self) -> anyhow::Result<Quote> {
-        let Some(words) = self.after("book ") else {
-            return Err(anyhow!("an example has no book"));
-        };
-        let Some((bid, offer)) = words.split_once(' ') else {
-            return Err(anyhow!("a book has a bid and an offer"));
-        };
-        match Quote::new(bid.parse::<u32>()?, offer.parse::<u32>()?) {
-            Ok(quote) => Ok(quote),
-            Err(_) => Err(anyhow!("a quote is not lawful")),
-        }
+    fn quote(&mut self) -> anyhow::Result<Quote>
+        ensures { length self.new.rest.now ≤ length self.old.rest.now }
+    {
+        let words = self.after("book ").context("an example has no book")?;
+        let (bid, offer) = words
+            .split_once(' ')
+            .context("a book has a bid and an offer")?;
+        Quote::new(bid.parse::<u32>()?, offer.parse::<u32>()?)
+            .ok()
+            .context("a quote is not lawful")
     }
 
-    fn call(&mut self, heap: Global) -> Result<Option<Call<'a>>, AllocError> {
+    fn call(&mut self, heap: Global) -> Result<Option<Call<'a>>, AllocError>
+        ensures left { length self.new.rest.now ≤ length self.old.rest.now }
+        ensures shorter { IfOk result (λ o. OnSome o (length self.new.rest.now < length self.old.rest.now)) }
+    {
         let Some(asked) = self.after("> ") else {
             return Ok(None);
         };
         let mut expected = String::new(heap);
-        for _ in 0..u64::MAX {
-            let Some(line) = self.after("< ") else {
-                break;
-            };
+        while let Some(line) = self.after("< ") {
             expected.push_str(line)?;
             expected.push('\n')?;
         }
         Ok(Some(Call { asked, expected }))
     }
 
-    fn calls(&mut self, heap: Global) -> Result<Vec<Call<'a>>, AllocError> {
+    fn calls(&mut self, heap: Global) -> Result<Vec<Call<'a>>, AllocError>
+        ensures { length self.new.rest.now ≤ length self.old.rest.now }
+    {
         let mut calls = Vec::new(heap);
-        for _ in 0..u64::MAX {
-            let Some(call) = self.call(heap)? else {
-                break;
-            };
+        while let Some(call) = self.call(heap)? {
             calls.push(call)?;
         }
         Ok(calls)
     }
 
     // Passes over comments and empty lines.
-    fn skip(&mut self) {
-        for _ in 0..u64::MAX {
-            let text = self.rest;
-            match text.split_once('\n') {
-                Some((line, rest)) if line.is_empty() || line.starts_with('#') => self.rest = rest,
-                _ => break,
+    fn skip(&mut self)
+        ensures { length self.new.rest.now ≤ length self.old.rest.now }
+    {
+        while let Some((line, rest)) = self.rest.split_once('\n') {
+            if !line.is_empty() && !line.starts_with('#') {
+                break;
             }
+            self.rest = rest;
         }
     }
 
     // None at the end of the file.
-    pub fn example(&mut self, heap: Global) -> anyhow::Result<Option<Example<'a>>> {
+    pub fn example(&mut self, heap: Global) -> anyhow::Result<Option<Example<'a>>>
+        ensures { IfOk result (λ o. OnSome o (length self.new.rest.now < length self.old.rest.now)) }
+    {
         self.skip();
         if self.rest.is_empty() {
             return Ok(None);
         }
-        let Some(name) = self.after("example ") else {
-            return Err(anyhow!("an example has no name"));
-        };
+        let name = self.after("example ").context("an example has no name")?;
         let told_in = self.all_after(heap, "in ")?;
         if told_in.is_empty() {
             return Err(anyhow!("an example is told in no filing"));

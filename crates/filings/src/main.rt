@@ -13,7 +13,7 @@ use crate::playing::play;
 use std::io;
 
 // How many examples were run, how many agree, and of how many our rules differ from the filing.
-#[derive(Clone, Copy, Drop)]
+#[derive(Clone, Copy, Default, Drop)]
 struct Count {
     run: u64,
     agree: u64,
@@ -45,16 +45,9 @@ fn run(rt: &HostRuntime) -> anyhow::Result<()> {
     let heap = rt.alloc();
     let text = io::read_to_string(heap, rt.stdin())?;
     let mut reader = Reader::new(text.as_str());
-    let mut count = Count {
-        run: 0,
-        agree: 0,
-        differ: 0,
-    };
+    let mut count = Count::default();
     println!(rt; "{}", report::LEGEND)?;
-    for _ in 0..u64::MAX {
-        let Some(example) = reader.example(heap)? else {
-            break;
-        };
+    while let Some(example) = reader.example(heap)? {
         run_example(rt, &example, &mut count)?;
     }
     let Count { run, agree, differ } = count;

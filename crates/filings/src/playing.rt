@@ -1,6 +1,6 @@
 // The calls of an example on a new book.
 use crate::examples::{Call, Example};
-use anyhow::anyhow;
+use anyhow::{Context, anyhow};
 use days::commands::{Command, read_command};
 use days::desk::Desk;
 use days::telling::Output;
@@ -8,18 +8,17 @@ use directory::directories::Directory;
 use directory::table::HashedDirectory;
 use std::alloc::Global;
 use tape::bytes::ByteTape;
+use tape::layout::LINE_BYTES;
 use tape::tapes::Tape;
 
-// How many lines the tape has room for, and how many bytes a line takes.
+// How many lines the tape has room for.
 const LINES: usize = 64;
 
-const LINE_BYTES: usize = 43;
-
 fn command<'a>(call: &Call<'a>) -> anyhow::Result<Command<'a>> {
-    match read_command(call.asked.as_bytes()) {
-        Ok(Some(command)) => Ok(command),
-        _ => Err(anyhow!("a call of an example is none")),
-    }
+    read_command(call.asked.as_bytes())
+        .ok()
+        .flatten()
+        .context("a call of an example is none")
 }
 
 // What is answered to each call. The last closes the book.
@@ -37,9 +36,8 @@ fn answers<D: Directory + Drop, T: Tape + Drop>(
             came.push(out)?;
             return Ok(came);
         }
-        if !desk.answer(&command, &mut out)? {
-            return Err(anyhow!("only calls and questions stand in an example"));
-        }
+        desk.answer(&command, &mut out)?
+            .context("only calls and questions stand in an example")?;
         came.push(out)?;
     }
     Err(anyhow!("an example does not close its book"))
@@ -49,8 +47,8 @@ pub fn play(heap: Global, example: &Example<'_>) -> anyhow::Result<Vec<Output>> 
     let mut room = [0u8; LINES * LINE_BYTES];
     let directory = HashedDirectory::new(heap)?;
     let tape = ByteTape::new(&mut room);
-    match Desk::open(heap, example.quote, directory, tape) {
-        Ok(desk) => answers(heap, desk, example.calls.as_slice()),
-        Err(_) => Err(anyhow!("the book is not opened")),
-    }
+    let desk = Desk::open(heap, example.quote, directory, tape)
+        .ok()
+        .context("the book is not opened")?;
+    answers(heap, desk, example.calls.as_slice())
 }

@@ -48,9 +48,7 @@ pub fn example(
     let mut agrees = example.calls.len() == came.len();
     for (asked, answer) in example.calls.iter().zip(came) {
         let answer = std::str::from_utf8(answer.as_bytes())?;
-        if !call(rt, asked, answer)? {
-            agrees = false;
-        }
+        agrees &= call(rt, asked, answer)?;
     }
     println!(rt; "  {}", if agrees { "agrees" } else { "DIFFERS" })?;
     Ok(agrees)

@@ -8,13 +8,12 @@ mod trial;
 use crate::stored::REGISTER;
 use crate::tally::Tally;
 use crate::trial::try_register;
-use anyhow::anyhow;
-use book::refusals::OpenRefusal;
+use anyhow::Context;
 use directory::rows::RowDirectory;
 use loading::slips::Slip;
 use roll::log::Roll;
 use std::alloc::Global;
-use tape::line::{Line, Mark};
+use tape::line::Line;
 use tape::records::RecordTape;
 use terms::lawful::Quote;
 
@@ -25,30 +24,17 @@ fn load_new(
     register: &[u8],
     places: usize,
     tally: &mut Tally,
-) -> Result<(), OpenRefusal> {
-    let Ok(directory) = RowDirectory::new(heap) else {
-        return Err(OpenRefusal::NoMemory);
-    };
-    let mut lines = [Line {
-        time: 0,
-        partner: 0,
-        taker: 0,
-        shares: 0,
-        price: 0,
-        mark: Mark::Nothing,
-    }; 8];
-    let mut room = [Slip {
-        number: 0,
-        layer: 0,
-        place: 0,
-    }; 4];
+) -> anyhow::Result<()> {
+    let directory = RowDirectory::new(heap).context("no memory")?;
+    let mut lines = [Line::default(); 8];
+    let mut room = [Slip::default(); 4];
     let mut slips = Roll::new(&mut room[0..places.min(4)]);
     let tape = RecordTape::new(&mut lines);
     try_register(heap, quote, directory, tape, register, &mut slips, tally)
 }
 
-fn prefixes(heap: Global, quote: Quote, places: usize) -> Result<Tally, OpenRefusal> {
-    let mut tally = Tally::new();
+fn prefixes(heap: Global, quote: Quote, places: usize) -> anyhow::Result<Tally> {
+    let mut tally = Tally::default();
     let register = *REGISTER;
     for end in 0..=register.len() {
         load_new(heap, quote, &register[0..end], places, &mut tally)?;
@@ -56,8 +42,9 @@ fn prefixes(heap: Global, quote: Quote, places: usize) -> Result<Tally, OpenRefu
     Ok(tally)
 }
 
-fn changes(heap: Global, quote: Quote, places: usize) -> Result<Tally, OpenRefusal> {
-    let mut tally = Tally::new();
+fn changes(heap: Global, quote: Quote, places: usize) -> anyhow::Result<Tally> {
+    let mut tally = Tally::default();
+    // by place, since the byte of a copy is changed there
     for place in 0..REGISTER.len() {
         for by in 1..=255u8 {
             let mut register = *REGISTER;
@@ -70,19 +57,11 @@ fn changes(heap: Global, quote: Quote, places: usize) -> Result<Tally, OpenRefus
 
 fn run(rt: &HostRuntime) -> anyhow::Result<()> {
     let heap = rt.alloc();
-    let Ok(quote) = Quote::new(1000, 1001) else {
-        return Err(anyhow!("no quote"));
-    };
+    let quote = Quote::new(1000, 1001).ok().context("no quote")?;
     for places in [4, 1] {
         println!(rt; "places for slips: {places}")?;
-        match prefixes(heap, quote, places) {
-            Ok(tally) => println!(rt; "  prefixes: {tally}")?,
-            Err(_) => return Err(anyhow!("no memory")),
-        }
-        match changes(heap, quote, places) {
-            Ok(tally) => println!(rt; "  one byte changed: {tally}")?,
-            Err(_) => return Err(anyhow!("no memory")),
-        }
+        println!(rt; "  prefixes: {}", prefixes(heap, quote, places)?)?;
+        println!(rt; "  one byte changed: {}", changes(heap, quote, places)?)?;
     }
     Ok(())
 }

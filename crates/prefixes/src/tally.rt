@@ -4,7 +4,7 @@ use loading::slips::{Loaded, Slip};
 use std::fmt;
 
 // `stops` and `slips` count by the fault's number.
-#[derive(Clone, Copy, Drop)]
+#[derive(Clone, Copy, Default, Drop)]
 pub(crate) struct Tally {
     loads: u32,
     finished: u32,
@@ -14,23 +14,12 @@ pub(crate) struct Tally {
 }
 
 fn count_one(counts: &mut [u32], number: u8) {
-    let at = usize::from(number);
-    if at < counts.len() {
-        counts[at] = counts[at].saturating_add(1);
+    if let Some(count) = counts.get_mut(usize::from(number)) {
+        *count = count.saturating_add(1);
     }
 }
 
 impl Tally {
-    pub(crate) fn new() -> Tally {
-        Tally {
-            loads: 0,
-            finished: 0,
-            entered: 0,
-            stops: [0; 17],
-            slips: [0; 17],
-        }
-    }
-
     pub(crate) fn count_load(&mut self, answer: Result<Loaded, LoadFault>) {
         self.loads = self.loads.saturating_add(1);
         match answer {

@@ -1,6 +1,6 @@
 // One load into a new book.
 use crate::tally::Tally;
-use book::refusals::OpenRefusal;
+use anyhow::Context;
 use book::state::Book;
 use directory::directories::Directory;
 use loading::load::load;
@@ -19,16 +19,13 @@ pub(crate) fn try_register<D: Directory + Drop, T: Tape + Drop>(
     register: &[u8],
     slips: &mut Roll<'_, Slip>,
     tally: &mut Tally,
-) -> Result<(), OpenRefusal> {
-    let mut book = match Book::open(heap, quote, directory, tape) {
-        Ok(book) => book,
-        Err(not_opened) => return Err(not_opened.why),
-    };
+) -> anyhow::Result<()> {
+    let mut book = Book::open(heap, quote, directory, tape)
+        .ok()
+        .context("no memory")?;
     tally.count_load(load(&mut book, 0, register, slips));
-    for place in 1..=slips.len() {
-        if let Some(slip) = slips.get(place) {
-            tally.count_slip(slip);
-        }
+    for slip in slips.as_slice() {
+        tally.count_slip(*slip);
     }
     Ok(())
 }

@@ -1,64 +1,52 @@
 // Two runs held against each other.
 use crate::lists::is_tick;
-use anyhow::anyhow;
+use crate::verdict::{Alike, Difference, Verdict};
 use book::state::Book;
 use directory::directories::Directory;
 use replay::calls::{Answer, Call};
-use replay::rerunning::rerun;
 use replay::runs::Played;
 use rules::refusal::Refusal;
 use rules::{MOST_RESTING, PROTECTION_PERIOD};
 use std::alloc::{AllocError, Global};
 use tape::line::Mark;
 use tape::tapes::Tape;
-use terms::lawful::Quote;
-
-// What came of two runs; the places count shared calls, or lines of the tape, from 1.
-#[derive(Drop)]
-pub struct Verdict {
-    pub shared: usize,
-    pub trades: usize,
-    // the ends of the protection periods that began in the first run
-    pub ends: Vec<u64>,
-    pub short_tape: bool,
-    pub answer_differs: Option<usize>,
-    pub line_differs: Option<usize>,
-    pub books_differ: bool,
-}
-
-fn is_short(answers: &[Answer]) -> bool {
-    for answer in answers {
-        if *answer == Answer::Refused(Refusal::TapeShort) {
-            return true;
-        }
-    }
-    false
-}
 
 fn shared_answers(
     heap: Global,
     calls: &[Call],
     answers: &[Answer],
 ) -> Result<Vec<Answer>, AllocError> {
-    let mut shared = Vec::new(heap);
-    for (call, answer) in calls.iter().zip(answers.iter()) {
-        if !is_tick(call) {
-            shared.push(*answer)?;
-        }
-    }
-    Ok(shared)
+    calls
+        .iter()
+        .zip(answers)
+        .filter(|(call, _)| !is_tick(call))
+        .map(|(_, answer)| *answer)
+        .collect(heap)
 }
 
-fn first_difference(answers: &[Answer], others: &[Answer]) -> Option<usize> {
+// How many answers there are, where both lists are the same, or the first that differs.
+fn answered_alike(answers: &[Answer], others: &[Answer]) -> Result<usize, Difference> {
+    let shorter = answers.len().min(others.len());
     if answers.len() != others.len() {
-        return Some(answers.len().min(others.len()).saturating_add(1));
+        return Err(Difference::Answer(shorter.saturating_add(1)));
     }
-    for (i, (answer, other)) in answers.iter().zip(others.iter()).enumerate() {
-        if *answer != *other {
-            return Some(i.saturating_add(1));
-        }
+    match answers.iter().zip(others).position(|(a, b)| a != b) {
+        Some(i) => Err(Difference::Answer(i.saturating_add(1))),
+        None => Ok(shorter),
     }
-    None
+}
+
+// How many lines there are, where both tapes are the same, or the first place where they differ.
+fn traded_alike<D: Directory, T: Tape, E: Directory, U: Tape>(
+    book: &Book<D, T>,
+    other: &Book<E, U>,
+) -> Result<usize, Difference> {
+    let lines = book.lines();
+    let longer = lines.max(other.lines());
+    match (1..=longer).find(|place| book.line(*place) != other.line(*place)) {
+        Some(place) => Err(Difference::Line(place)),
+        None => Ok(lines),
+    }
 }
 
 // Both sides of both books, place by place, and their figures by way of them.
@@ -66,76 +54,59 @@ fn stand_differently<D: Directory, T: Tape, E: Directory, U: Tape>(
     book: &Book<D, T>,
     other: &Book<E, U>,
 ) -> bool {
-    for side in 1..=2u8 {
-        for place in 1..=MOST_RESTING {
-            if book.ask(side, place) != other.ask(side, place) {
-                return true;
-            }
-        }
+    (1..=2u8).any(|side| {
+        (1..=MOST_RESTING).any(|place| book.ask(side, place) != other.ask(side, place))
+    })
+}
+
+// The ends of the protection periods that began before the tapes differ.
+fn ends<D: Directory, T: Tape, E: Directory, U: Tape>(
+    heap: Global,
+    book: &Book<D, T>,
+    other: &Book<E, U>,
+) -> Result<Vec<u64>, AllocError> {
+    (1..=book.lines())
+        .map_while(|place| {
+            book.line(place)
+                .filter(|line| other.line(place) == Some(*line))
+        })
+        .filter(|line| line.mark != Mark::Nothing)
+        .map(|line| line.time.saturating_add(PROTECTION_PERIOD))
+        .collect(heap)
+}
+
+// A tape that was too short for a call counts first, for the law does not speak of that day.
+fn held<D: Directory, T: Tape, E: Directory, U: Tape>(
+    first: &Played<D, T>,
+    second: &Played<E, U>,
+    answers: &[Answer],
+    others: &[Answer],
+) -> Result<Alike, Difference> {
+    let short = Answer::Refused(Refusal::TapeShort);
+    if first.answers.contains(&short) || second.answers.contains(&short) {
+        return Err(Difference::ShortTape);
     }
-    false
+    let calls = answered_alike(answers, others)?;
+    let trades = traded_alike(&first.book, &second.book)?;
+    if stand_differently(&first.book, &second.book) {
+        return Err(Difference::Books);
+    }
+    Ok(Alike { calls, trades })
 }
 
 impl Verdict {
-    // The lines of both tapes, one by one, to the end of the longer.
-    fn compare_tapes<D: Directory, T: Tape, E: Directory, U: Tape>(
-        &mut self,
-        book: &Book<D, T>,
-        other: &Book<E, U>,
-    ) -> Result<(), AllocError> {
-        for place in 1..usize::MAX {
-            let line = book.line(place);
-            let other_line = other.line(place);
-            if line != other_line {
-                self.line_differs = Some(place);
-                break;
-            }
-            let Some(line) = line else {
-                break;
-            };
-            self.trades = place;
-            if line.mark != Mark::Nothing {
-                self.ends.push(line.time.saturating_add(PROTECTION_PERIOD))?;
-            }
-        }
-        Ok(())
+    pub fn of<D: Directory, T: Tape, E: Directory, U: Tape>(
+        heap: Global,
+        calls: &[Call],
+        first: &Played<D, T>,
+        other_calls: &[Call],
+        second: &Played<E, U>,
+    ) -> Result<Verdict, AllocError> {
+        let answers = shared_answers(heap, calls, first.answers.as_slice())?;
+        let others = shared_answers(heap, other_calls, second.answers.as_slice())?;
+        Ok(Verdict {
+            ends: ends(heap, &first.book, &second.book)?,
+            held: held(first, second, answers.as_slice(), others.as_slice()),
+        })
     }
-}
-
-pub fn compare<D: Directory + Drop, T: Tape + Drop, E: Directory + Drop, U: Tape + Drop>(
-    heap: Global,
-    quote: Quote,
-    directory: D,
-    tape: T,
-    calls: &[Call],
-    other_directory: E,
-    other_tape: U,
-    other_calls: &[Call],
-) -> anyhow::Result<Verdict> {
-    let Ok(played) = rerun(
-        heap,
-        quote,
-        directory,
-        tape,
-        calls,
-        other_directory,
-        other_tape,
-        other_calls,
-    ) else {
-        return Err(anyhow!("no memory for the books"));
-    };
-    let (first, second) = played;
-    let answers = shared_answers(heap, calls, first.answers.as_slice())?;
-    let others = shared_answers(heap, other_calls, second.answers.as_slice())?;
-    let mut verdict = Verdict {
-        shared: answers.len(),
-        trades: 0,
-        ends: Vec::new(heap),
-        short_tape: is_short(first.answers.as_slice()) || is_short(second.answers.as_slice()),
-        answer_differs: first_difference(answers.as_slice(), others.as_slice()),
-        line_differs: None,
-        books_differ: stand_differently(&first.book, &second.book),
-    };
-    verdict.compare_tapes(&first.book, &second.book)?;
-    Ok(verdict)
 }

@@ -3,12 +3,12 @@ use replay::calls::Call;
 use rules::LAST_MOMENT;
 use std::alloc::{AllocError, Global};
 
-pub fn time_of(call: &Call) -> u64 {
+fn time_of(call: &Call) -> u64 {
     match call {
-        Call::Entry { time, .. } => *time,
-        Call::Cancel { time, .. } => *time,
-        Call::Quote { time, .. } => *time,
-        Call::Tick { time } => *time,
+        Call::Entry { time, .. }
+        | Call::Cancel { time, .. }
+        | Call::Quote { time, .. }
+        | Call::Tick { time } => *time,
     }
 }
 
@@ -16,42 +16,34 @@ pub fn is_tick(call: &Call) -> bool {
     matches!(call, Call::Tick { .. })
 }
 
-// The same call once more.
+// The same call once more. A ticket is never copied, so that a call has no Clone.
 fn again(heap: Global, call: &Call) -> Result<Call, AllocError> {
-    match call {
-        Call::Entry { time, id, ticket } => {
-            let time = *time;
-            let id = id.as_slice().to_vec(heap)?;
-            let ticket = ticket.again();
-            Ok(Call::Entry { time, id, ticket })
-        }
-        Call::Cancel { time, id } => {
-            let time = *time;
-            let id = id.as_slice().to_vec(heap)?;
-            Ok(Call::Cancel { time, id })
-        }
-        Call::Quote { time, quote } => {
-            let time = *time;
-            let quote = *quote;
-            Ok(Call::Quote { time, quote })
-        }
-        Call::Tick { time } => {
-            let time = *time;
-            Ok(Call::Tick { time })
-        }
-    }
+    Ok(match call {
+        Call::Entry { time, id, ticket } => Call::Entry {
+            time: *time,
+            id: id.as_slice().to_vec(heap)?,
+            ticket: ticket.again(),
+        },
+        Call::Cancel { time, id } => Call::Cancel {
+            time: *time,
+            id: id.as_slice().to_vec(heap)?,
+        },
+        Call::Quote { time, quote } => Call::Quote {
+            time: *time,
+            quote: *quote,
+        },
+        Call::Tick { time } => Call::Tick { time: *time },
+    })
 }
 
 // The latest time of the day that a call has.
 pub fn latest(calls: &[Call]) -> u64 {
-    let mut latest = 0;
-    for call in calls {
-        let time = time_of(call);
-        if time <= LAST_MOMENT && time > latest {
-            latest = time;
-        }
-    }
-    latest
+    calls
+        .iter()
+        .map(time_of)
+        .filter(|time| *time <= LAST_MOMENT)
+        .max()
+        .unwrap_or(0)
 }
 
 // For each call, the earliest time of a shared call from there on.
@@ -78,22 +70,19 @@ pub fn with_ticks(
 ) -> Result<Vec<Call>, AllocError> {
     let to_come = earliest_to_come(heap, calls)?;
     let mut list = Vec::new(heap);
-    let mut next = 0usize;
-    for (i, call) in calls.iter().enumerate() {
+    let mut ends = ends;
+    for (call, earliest) in calls.iter().zip(to_come.iter()) {
         if is_tick(call) {
             continue;
         }
-        let earliest = to_come.get(i).copied().unwrap_or(0);
-        for _ in 0..ends.len() {
-            let Some(end) = ends.get(next).copied() else {
-                break;
-            };
-            if end > earliest {
-                break;
-            }
-            list.push(Call::Tick { time: end })?;
-            next = next.saturating_add(1);
+        let due = ends
+            .iter()
+            .position(|end| *end > *earliest)
+            .unwrap_or(ends.len());
+        for end in &ends[..due] {
+            list.push(Call::Tick { time: *end })?;
         }
+        ends = &ends[due..];
         list.push(again(heap, call)?)?;
     }
     list.push(Call::Tick { time: last })?;
@@ -103,11 +92,7 @@ pub fn with_ticks(
 // The premise of the law that depends on the calls alone: the first tick that is later than a shared call after it.
 pub fn tick_too_late(heap: Global, calls: &[Call]) -> Result<Option<u64>, AllocError> {
     let to_come = earliest_to_come(heap, calls)?;
-    for (i, call) in calls.iter().enumerate() {
-        let earliest = to_come.get(i).copied().unwrap_or(0);
-        if is_tick(call) && time_of(call) > earliest {
-            return Ok(Some(time_of(call)));
-        }
-    }
-    Ok(None)
+    let late = calls.iter().zip(to_come.iter()).find(|(call, earliest)| is_tick(call)
+        && time_of(call) > **earliest);
+    Ok(late.map(|(tick, _)| time_of(tick)))
 }

@@ -6,36 +6,22 @@ mod compare;
 mod day;
 mod lists;
 mod makes;
+mod verdict;
 
-use crate::compare::Verdict;
 use crate::day::read_day;
 use crate::lists::{latest, tick_too_late, with_ticks};
 use crate::makes::on_makes;
+use crate::verdict::Verdict;
 use replay::calls::Call;
 use std::io;
 use std::io::Read;
 use std::process::ExitCode;
 
 fn tell(rt: &HostRuntime, name: &str, verdict: &Verdict) -> io::Result<()> {
-    let shared = verdict.shared;
-    let trades = verdict.trades;
-    if verdict.short_tape {
-        return println!(rt;
-            "{name}: the tape was too short for a call, so that the law does not speak of this day"
-        );
+    match &verdict.held {
+        Ok(alike) => println!(rt; "{name}: {alike}"),
+        Err(difference) => println!(rt; "{name}: {difference}"),
     }
-    if let Some(place) = verdict.answer_differs {
-        return println!(rt; "{name}: DIFFERS: the answer to call {place}, ticks not counted");
-    }
-    if let Some(place) = verdict.line_differs {
-        return println!(rt; "{name}: DIFFERS: line {place} of the tape");
-    }
-    if verdict.books_differ {
-        return println!(rt; "{name}: DIFFERS: what stands in the books at the end");
-    }
-    println!(rt;
-        "{name}: {shared} calls answered alike, {trades} trades on both tapes, books equal"
-    )
 }
 
 fn run(rt: &HostRuntime) -> anyhow::Result<()> {
@@ -65,6 +51,7 @@ fn run(rt: &HostRuntime) -> anyhow::Result<()> {
     Ok(())
 }
 
+// As in the other programs that print their own faults: they share no library of ours that prints.
 fn main(rt: HostRuntime) -> io::Result<ExitCode> {
     match run(&rt) {
         Ok(()) => Ok(ExitCode::SUCCESS),

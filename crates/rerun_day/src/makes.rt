@@ -1,40 +1,37 @@
 // The day as it is on rows and records, the other list on a hashed directory and bytes.
-use crate::compare::{Verdict, compare};
 use crate::day::Day;
-use anyhow::anyhow;
+use crate::verdict::Verdict;
+use anyhow::Context;
 use directory::rows::RowDirectory;
 use directory::table::HashedDirectory;
 use replay::calls::Call;
+use replay::rerunning::rerun;
 use std::alloc::Global;
 use tape::bytes::ByteTape;
-use tape::line::{Line, Mark};
+use tape::layout::LINE_BYTES;
+use tape::line::Line;
 use tape::records::RecordTape;
 
+// Rooms are had where the tapes that borrow them are made.
 pub fn on_makes(heap: Global, day: &Day, other_calls: &[Call]) -> anyhow::Result<Verdict> {
-    let blank = Line {
-        time: 0,
-        partner: 0,
-        taker: 0,
-        shares: 0,
-        price: 0,
-        mark: Mark::Nothing,
-    };
+    let calls = day.calls.as_slice();
     let lines = day.lines as usize;
-    let Some(size) = lines.checked_mul(43) else {
-        return Err(anyhow!("no memory for the tape"));
-    };
-    let mut records = vec![in heap; blank; lines]?;
+    let size = lines
+        .checked_mul(LINE_BYTES)
+        .context("no memory for the tape")?;
+    let mut records = vec![in heap; Line::default(); lines]?;
     let mut bytes = vec![in heap; 0u8; size]?;
-    let rows = RowDirectory::new(heap)?;
-    let hashed = HashedDirectory::new(heap)?;
-    compare(
+    let (first, second) = rerun(
         heap,
         day.quote,
-        rows,
+        RowDirectory::new(heap)?,
         RecordTape::new(records.as_mut_slice()),
-        day.calls.as_slice(),
-        hashed,
+        calls,
+        HashedDirectory::new(heap)?,
         ByteTape::new(bytes.as_mut_slice()),
         other_calls,
     )
+    .ok()
+    .context("no memory for the books")?;
+    Ok(Verdict::of(heap, calls, &first, other_calls, &second)?)
 }

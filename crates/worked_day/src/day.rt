@@ -1,9 +1,8 @@
 // A day on a book of any makes.
-use anyhow::anyhow;
+use anyhow::Context;
 use days::commands::read_command;
 use days::desk::Desk;
 use days::telling::Output;
-use days::words::TextLines;
 use directory::directories::Directory;
 use rules::MOST_ENTRIES;
 use std::alloc::Global;
@@ -15,16 +14,14 @@ fn answer_line<D: Directory, T: Tape>(
     line: &[u8],
     out: &mut Output,
 ) -> anyhow::Result<()> {
-    match read_command(line) {
-        Ok(Some(command)) => {
-            if !desk.answer(&command, out)? {
-                return Err(anyhow!("only calls and questions stand in the worked day"));
-            }
-            Ok(())
-        }
-        Ok(None) => Ok(()),
-        Err(_) => Err(anyhow!("a line of the worked day is none")),
-    }
+    let command = read_command(line)
+        .ok()
+        .context("a line of the worked day is none")?;
+    let Some(command) = command else {
+        return Ok(());
+    };
+    desk.answer(&command, out)?
+        .context("only calls and questions stand in the worked day")
 }
 
 fn open<D: Directory + Drop, T: Tape + Drop>(
@@ -32,13 +29,12 @@ fn open<D: Directory + Drop, T: Tape + Drop>(
     directory: D,
     tape: T,
 ) -> anyhow::Result<Desk<D, T>> {
-    let Ok(quote) = Quote::new(1000, 1001) else {
-        return Err(anyhow!("the quote is not lawful"));
-    };
-    match Desk::open(heap, quote, directory, tape) {
-        Ok(desk) => Ok(desk),
-        Err(_) => Err(anyhow!("the book is not opened")),
-    }
+    let quote = Quote::new(1000, 1001)
+        .ok()
+        .context("the quote is not lawful")?;
+    Desk::open(heap, quote, directory, tape)
+        .ok()
+        .context("the book is not opened")
 }
 
 // The lines of the text, on a new book.
@@ -50,11 +46,7 @@ pub fn play<D: Directory + Drop, T: Tape + Drop>(
     out: &mut Output,
 ) -> anyhow::Result<()> {
     let mut desk = open(heap, directory, tape)?;
-    let mut lines = TextLines::new(text);
-    for _ in 0..text.len() {
-        let Some(line) = lines.next_line() else {
-            break;
-        };
+    for line in text.split(|byte| *byte == b'\n') {
         answer_line(&mut desk, line, out)?;
     }
     desk.close(out)?;

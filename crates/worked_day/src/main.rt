@@ -4,19 +4,24 @@
 mod day;
 mod makes;
 
-use crate::makes::{Makes, told};
+use crate::makes::{on_bytes, on_records};
+use directory::rows::RowDirectory;
+use directory::table::HashedDirectory;
 use std::io::{Read, Write};
 
 fn run(rt: &HostRuntime) -> anyhow::Result<()> {
     let heap = rt.alloc();
     let mut text = Vec::new(heap);
     rt.stdin().read_to_end(&mut text)?;
-    let first = told(heap, Makes::RowsRecords, text.as_slice())?;
+    let text = text.as_slice();
+    let rows = || RowDirectory::new(heap);
+    let hashed = || HashedDirectory::new(heap);
+    let first = on_records(heap, text, rows)?;
     let first = first.as_bytes();
     rt.stdout().write_all(first)?;
-    let rows_bytes = told(heap, Makes::RowsBytes, text.as_slice())?.as_bytes() == first;
-    let hashed_records = told(heap, Makes::HashedRecords, text.as_slice())?.as_bytes() == first;
-    let hashed_bytes = told(heap, Makes::HashedBytes, text.as_slice())?.as_bytes() == first;
+    let rows_bytes = on_bytes(heap, text, rows)?.as_bytes() == first;
+    let hashed_records = on_records(heap, text, hashed)?.as_bytes() == first;
+    let hashed_bytes = on_bytes(heap, text, hashed)?.as_bytes() == first;
     println!(rt; "the same on rows and bytes: {rows_bytes}")?;
     println!(rt; "the same on hashed and records: {hashed_records}")?;
     println!(rt; "the same on hashed and bytes: {hashed_bytes}")?;

@@ -1,90 +1,53 @@
-// The four pairs of makes.
+// The day, and then entries until no more are accepted, each on a new book.
 use crate::day::{play, spend_entries};
 use days::telling::Output;
 use directory::directories::Directory;
-use directory::rows::RowDirectory;
-use directory::table::HashedDirectory;
-use std::alloc::Global;
+use std::alloc::{AllocError, Global};
 use tape::bytes::ByteTape;
-use tape::line::{Line, Mark};
+use tape::layout::LINE_BYTES;
+use tape::line::Line;
 use tape::records::RecordTape;
+use tape::tapes::Tape;
 
-#[derive(Clone, Copy, PartialEq, Eq, Debug, Drop)]
-pub enum Makes {
-    RowsRecords,
-    RowsBytes,
-    HashedRecords,
-    HashedBytes,
-}
-
-// How many lines the tape has room for: the day uses up all but 64.
+// How many lines a tape has room for: the day uses up all but 64.
 const LINES: usize = 72;
 
-fn on_records<D: Directory + Drop>(
+// What is told of the day on the first two makes, and of the entries on the others.
+fn told<D: Directory + Drop, T: Tape + Drop>(
     heap: Global,
-    day: D,
-    spent: D,
     text: &[u8],
-    out: &mut Output,
-) -> anyhow::Result<()> {
-    let blank = Line {
-        time: 0,
-        partner: 0,
-        taker: 0,
-        shares: 0,
-        price: 0,
-        mark: Mark::Nothing,
-    };
-    let mut room = [blank; LINES];
-    play(heap, day, RecordTape::new(&mut room), text, out)?;
-    let mut room = [blank; LINES];
-    spend_entries(heap, spent, RecordTape::new(&mut room), out)
-}
-
-fn on_bytes<D: Directory + Drop>(
-    heap: Global,
-    day: D,
-    spent: D,
-    text: &[u8],
-    out: &mut Output,
-) -> anyhow::Result<()> {
-    let mut room = [0u8; 43 * LINES];
-    play(heap, day, ByteTape::new(&mut room), text, out)?;
-    let mut room = [0u8; 43 * LINES];
-    spend_entries(heap, spent, ByteTape::new(&mut room), out)
-}
-
-pub fn told(heap: Global, makes: Makes, text: &[u8]) -> anyhow::Result<Output> {
+    directories: (D, D),
+    tapes: (T, T),
+) -> anyhow::Result<Output> {
     let mut out = Output::new(heap);
-    match makes {
-        Makes::RowsRecords => on_records(
-            heap,
-            RowDirectory::new(heap)?,
-            RowDirectory::new(heap)?,
-            text,
-            &mut out,
-        )?,
-        Makes::RowsBytes => on_bytes(
-            heap,
-            RowDirectory::new(heap)?,
-            RowDirectory::new(heap)?,
-            text,
-            &mut out,
-        )?,
-        Makes::HashedRecords => on_records(
-            heap,
-            HashedDirectory::new(heap)?,
-            HashedDirectory::new(heap)?,
-            text,
-            &mut out,
-        )?,
-        Makes::HashedBytes => on_bytes(
-            heap,
-            HashedDirectory::new(heap)?,
-            HashedDirectory::new(heap)?,
-            text,
-            &mut out,
-        )?,
-    }
+    play(heap, directories.0, tapes.0, text, &mut out)?;
+    spend_entries(heap, directories.1, tapes.1, &mut out)?;
     Ok(out)
+}
+
+// A tape borrows its room, which stands in the function that makes it: hence one for each make.
+pub fn on_records<D: Directory + Drop, F: Fn() -> Result<D, AllocError> + Drop>(
+    heap: Global,
+    text: &[u8],
+    directory: F,
+) -> anyhow::Result<Output>
+    requires { F.IsAlwaysCallable directory }
+{
+    let mut room = [Line::default(); LINES];
+    let mut more = [Line::default(); LINES];
+    let tapes = (RecordTape::new(&mut room), RecordTape::new(&mut more));
+    told(heap, text, (directory()?, directory()?), tapes)
+}
+
+pub fn on_bytes<D: Directory + Drop, F: Fn() -> Result<D, AllocError> + Drop>(
+    heap: Global,
+    text: &[u8],
+    directory: F,
+) -> anyhow::Result<Output>
+    requires { F.IsAlwaysCallable directory }
+{
+    let mut room = [0u8; LINES * LINE_BYTES];
+    let mut more = [0u8; LINES * LINE_BYTES];
+    let tapes = (ByteTape::new(&mut room), ByteTape::new(&mut more));
+    told(heap, text, (directory()?, directory()?), tapes)
 }
