@@ -47,7 +47,7 @@ impl<D: Directory, T: Tape> Book<D, T> {
         })
     }
 
-    // The rows of the orders that rest, lowest entry number first. The tape explains how far each of them reaches.
+    // The rows of the orders that rest, lowest entry number first. The tape explains the discretion of each MDO among them.
     #[tactic(auto, using(crate::proofs::Explains::discretion_explained))]
     pub fn resting_orders(&self) -> &[Row]
         ensures rows { map row_order result.now ≡ (book_of T.Tape self.now.engine).market.orders }

@@ -27,8 +27,8 @@ fn table_for<T: Tape>(heap: Global, quote: Quote, tape: &T) -> Result<Table, Ope
 }
 
 impl<D: Directory, T: Tape> Book<D, T> {
-    // A book with nothing in it, on an emptied directory and an empty tape. All memory that it will ever use is had here. Each thing
-    // is handed over once, as in a replay.
+    // A book with nothing in it, on an emptied directory and an empty tape. All memory that it will ever use is had here. A
+    // struct of the four that are handed over would be made only to be taken apart.
     pub fn open(
         heap: Global,
         quote: Quote,

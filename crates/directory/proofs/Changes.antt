@@ -1,9 +1,8 @@
 -- What putting and dropping a pair does to the numbers, in the words of the directory's contract, for a list of pairs
 -- that the pair joins or leaves between `xs` and `ys`. Cite `pair_here`, `pair_others`, `pair_found`.
-use Rattle.std.proofs.Common.{◌≡◌, ℕ, ◌≤◌, true, false, cond, ltb, leb, List, ◌∷◌, ◌++◌, length, is_some, Some, None, Option, sym, refl, ap, ◌∙◌}
-use Rattle.std.proofs.lemmas.Bool.{and_parts, both_ways, leb-true}
-use Rattle.terms.specs.Terms.{in_range}
-use Rattle.terms.specs.Identifiers.{printable, lawful_identifier}
+use Rattle.std.proofs.Common.{◌≡◌, ℕ, true, false, cond, ltb, List, ◌∷◌, ◌++◌, is_some, Some, None, Option, sym, refl, ap, ◌∙◌}
+use Rattle.std.proofs.lemmas.Bool.{both_ways}
+use Rattle.terms.specs.Identifiers.{lawful_identifier}
 use Rattle.directory.specs.declared.entries.Entry.{Entry}
 use Rattle.directory.specs.Entries.{entry_id, number_in, distinct}
 use Rattle.directory.specs.declared.directories.PutRefusal.TheVariants.{Unlawful, Held, Full}
@@ -38,8 +37,3 @@ held_refused id found had lawful held =
 pub not_held : (found : Option ℕ) → is_some found ≡ false → found ≡ None
 not_held None h = refl
 not_held (Some n) h = absurd (both_ways true h refl)
-
-pub short_enough : (id : List ℕ) → lawful_identifier id ≡ true → length id ≤ 20
-short_enough id lawful =
-    let fits = (and_parts (in_range 1 (length id) 20) (printable id) lawful).0 in
-    leb-true (length id) 20 (and_parts (leb 1 (length id)) (leb (length id) 20) fits).1

@@ -1,7 +1,7 @@
 -- A look for an identifier, from its home on, one place at a time: every place passed is taken, by another identifier.
 -- Where it meets a free place the identifier has no pair, since the chain of one beyond would be broken there.
--- Cite `look_starts`, `look_goes_on`, `look_finds`, `look_ends` and `look_never_fails`, in the order of the loop.
-use Rattle.std.proofs.Common.{◌≡◌, ℕ, ◌+◌, ◌%◌, ◌<◌, ◌≤◌, true, false, List, length, get_or, is_some, Some, None, sym, refl, ap, ◌∙◌, subst, ⊎_elim, not-suc-le-zero, arith}
+-- Cite `look_goes_on`, `look_finds`, `look_ends` and `look_never_fails`, in the order of the loop.
+use Rattle.std.proofs.Common.{◌≡◌, ℕ, ◌+◌, ◌%◌, ◌<◌, ◌≤◌, true, false, List, length, get_or, is_some, Some, None, sym, refl, ap, ◌∙◌, subst, ⊎_elim, arith}
 use Rattle.std.specs.Str.{bytes_eq}
 use Rattle.std.proofs.lemmas.Bool.{both_ways, cases_lt, cases_order}
 use Rattle.directory.specs.declared.entries.Entry.{Entry}
@@ -14,9 +14,6 @@ use Rattle.directory.proofs.Slots.{home_is, place_below, none_held, all_taken}
 pub record Looking (ps : Places) (id : List ℕ) (step : ℕ) : Type 0 where
   pub passed : (q : ℕ) → q < 128 → steps (home_place id) q < step → taken ps q ≡ true
   pub by_others : (q : ℕ) (e : Entry) → q < 128 → steps (home_place id) q < step → get_or ps q None ≡ Some e → entry_id e ≡ id → ⊥
-
-pub look_starts : (ps : Places) (id : List ℕ) → Looking ps id 0
-look_starts ps id = record { passed = λ q lq lt. absurd (not-suc-le-zero lt); by_others = λ q e lq lt is own. not-suc-le-zero lt }
 
 some_is : (e f : Entry) → Some e ≡ Some f → e ≡ f
 some_is e f h = cc

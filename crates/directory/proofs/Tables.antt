@@ -1,6 +1,6 @@
--- A table after a pair is put at a free place, taken out, or every place freed. Cite `found_number` for a pair that stands there;
--- `chained_put`, `apart_put`, `count_put`, `put_here` and `put_others`; `gapped`, `count_removed`, `removed_here` and `removed_others`; `no_entries` and `chained_empty`.
-use Rattle.std.proofs.Common.{◌≡◌, ℕ, zero, suc, ◌+◌, ◌<◌, ◌≤◌, true, false, List, [], ◌∷◌, ◌++◌, length, get_or, replicate, set, Some, None, sym, refl, ap, ◌∙◌, subst, ⊎_elim, arith, length-set, get_or-set_same}
+-- A table after a pair is put at a free place, or taken out. Cite `found_number` for a pair that stands there;
+-- `chained_put`, `apart_put`, `count_put`, `put_here` and `put_others`; `gapped`, `count_removed`, `removed_here` and `removed_others`.
+use Rattle.std.proofs.Common.{◌≡◌, ℕ, ◌+◌, ◌<◌, ◌≤◌, true, List, ◌∷◌, ◌++◌, length, get_or, set, Some, None, sym, ap, ◌∙◌, subst, ⊎_elim, arith, length-set, get_or-set_same}
 use Rattle.std.proofs.lemmas.Bool.{both_ways, cases_eq}
 use Rattle.directory.specs.declared.entries.Entry.{Entry}
 use Rattle.directory.specs.Entries.{entry_id, number_in, distinct}
@@ -8,19 +8,6 @@ use Rattle.directory.specs.Table.{Places, entries_in, taken, home_at, home_place
 use Rattle.directory.proofs.Distinct.{distinct_between, distinct_without}
 use Rattle.directory.proofs.Changes.{pair_here, pair_others, pair_found}
 use Rattle.directory.proofs.Slots.{before, after, with_pair, without_pair, filled, freed, one_more, free_is, taken_here, taken_other, home_is, home_other}
-
-none_taken : (ps : Places) → entries_in ps ≡ [] → (p : ℕ) → taken ps p ≡ false
-none_taken [] h p = refl
-none_taken (None ∷ ps) h zero = refl
-none_taken (None ∷ ps) h (suc p) = none_taken ps h p
-none_taken (Some e ∷ ps) h p = let z : ◌≡◌ {A = ℕ} 1 0 = ap (λ (es : List Entry). elim es [ [] ↦ 0 | x ∷ xs ↦ 1 ]) h in absurd (omega arith)
-
-pub chained_empty : (ps : Places) → entries_in ps ≡ [] → Chained ps
-chained_empty ps h x = absurd (both_ways (taken ps x.pair) (none_taken ps h x.pair) x.pair_taken)
-
-pub no_entries : (n : ℕ) → entries_in (replicate n None) ≡ []
-no_entries zero = refl
-no_entries (suc n) = no_entries n
 
 pub chained_put : (ps : Places) (id : List ℕ) (p : ℕ) (e : Entry) → length ps ≡ 128 → Chained ps → FreeAt ps id p → entry_id e ≡ id → Chained (set ps p (Some e))
 chained_put ps id p e whole chained f own x =

@@ -11,7 +11,7 @@ use Rattle.rules.specs.Market.{Order, Market, less, lowered, resting, lower, tho
 use Rattle.rules.specs.Priority.{next_partner, partner_for}
 use Rattle.rules.specs.Sweep.{lines, trade, sweep, sweep_each}
 use Rattle.rules.proofs.Cases.{if_both, if_true, if_false}
-use Rattle.rules.proofs.Lasting.{sweep_keep, each_keep}
+use Rattle.rules.proofs.Lasting.{each_keep}
 use Rattle.rules.proofs.Numbers.{rows_sweep}
 use Rattle.orders.specs.declared.row.Row.{Row}
 use Rattle.orders.specs.Rows.{row_order, rising, rests, orders_in}
@@ -42,10 +42,6 @@ absent_after k t o m e = rows_sweep (λ os. resting k os ≡ None) (λ j n os h.
 sweep_gone : (t : ℕ) (o : Order) (m : Market) → resting o.number m.orders ≡ None → sweep t o m ≡ m
 unfolding sweep
 sweep_gone t o m e = lines_gone t (reach_in m o) o (length m.orders) m e
-
-pub sweep_longer : (t : ℕ) (o : Order) (m : Market) → length m.tape ≤ length (sweep t o m).tape
-sweep_longer t o m =
-    sweep_keep (λ r. length m.tape ≤ length r.tape) t (λ p a x r h. omega (arith, h, trade_longer t p a x r)) o m (omega arith)
 
 pub each_longer : (t : ℕ) (os : List Order) (m : Market) → length m.tape ≤ length (sweep_each t os m).tape
 each_longer t os m =

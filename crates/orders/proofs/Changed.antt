@@ -148,6 +148,3 @@ only_shares k rs i r left at is =
       same = kept;
       others = λ j d other. get_or-set_other rs i j (with_left left r) d (λ h. other (ap (λ m. (get_or rs m d).number) h ∙ at.number d));
     }
-
-pub unchanged : (k : ℕ) (rs : List Row) → OnlySharesOf k rs rs
-unchanged k rs = record { count = refl; same = refl; others = λ i d other. refl }

@@ -1,15 +1,12 @@
 -- A scan over the rows is the rule book's fold over the orders that rest. Cite all_resting for a test, sum_resting with none_of
 -- and few_shares for a sum of shares.
-use Rattle.std.proofs.Common.{◌≡◌, ℕ, ◌+◌, ◌*◌, ◌^◌, ◌<◌, ◌≤◌, min, eqb, Bool, true, false, cond, ◌&&◌, List, [], ◌∷◌, length, get_or, fold, sym, refl, ap, ◌∙◌, inl, inr, arith}
+use Rattle.std.proofs.Common.{◌≡◌, ℕ, ◌+◌, ◌*◌, ◌^◌, ◌<◌, ◌≤◌, min, Bool, true, false, cond, ◌&&◌, List, [], ◌∷◌, length, get_or, fold, sym, refl, ap, ◌∙◌, inl, inr, arith}
 use Rattle.std.proofs.lemmas.List.Folds.{list_all-map}
 use Rattle.std.proofs.lemmas.List.Sums.{sum_by-le}
 use Rattle.std.proofs.lemmas.Bool.{cases_Bool, ltb-false}
 use Rattle.std.proofs.Math.Bool.{and-true, and_assoc}
 use Rattle.std.specs.List.{filter, list_all, sum_by}
-use Rattle.terms.specs.declared.kinds.Side.{Side}
-use Rattle.rules.specs.Market.{Market, Order, ranked_in}
-use Rattle.rules.specs.Sweep.{shows}
-use Rattle.orders.specs.Displays.{shares_there}
+use Rattle.rules.specs.Market.{Order}
 use Rattle.orders.specs.declared.row.Row.{Row}
 use Rattle.orders.specs.Rows.{row_order, rests, orders_in}
 use Rattle.orders.proofs.Found.{orders_of, orders_in_resting, orders_in_spent}

@@ -1,3 +1,2 @@
-mod Chain
 mod Short
 pub mod Tails

@@ -1,6 +1,6 @@
 -- Each side has exactly one ranking. That there is one: orders are placed one by one, and two entry numbers are never equal.
 -- That there is no other: of two rankings the first orders are the same, and so are the rests.
-use Rattle.std.proofs.Common.{◌≡◌, ℕ, zero, suc, ◌-◌, ◌<◌, ◌≤◌, true, false, ◌⊎◌, ◌↔◌, List, [], ◌∷◌, Some, None, Option, sym, refl, ap, ◌∙◌, subst, inl, inr, arith, SomeIff}
+use Rattle.std.proofs.Common.{◌≡◌, ℕ, ◌<◌, true, false, ◌⊎◌, ◌↔◌, List, [], ◌∷◌, Some, None, Option, sym, refl, ap, ◌∙◌, subst, inl, inr, arith}
 use Rattle.std.proofs.ByRecursion.{All-weaker, all-has, all_has_itself}
 use Rattle.std.proofs.lemmas.Bool.{true≢false}
 use Rattle.std.specs.List.{ContainsAt as Has, AllByRecursion as Every}
@@ -10,7 +10,7 @@ use Rattle.terms.specs.declared.kinds.Side.{Side}
 use Rattle.rules.specs.Laws.{Ascending, OneRanking, OneAnswer}
 use Rattle.rules.specs.Market.{Market, Order, ranked_in, side_of}
 use Rattle.rules.specs.Priority.{class_of}
-use Rattle.rules.specs.Questions.{ranks_before, placed, InRank, ranking_of, Ranking, Standing, AnsweredOn, asked_on, standing_of, at_place, index_of}
+use Rattle.rules.specs.Questions.{ranks_before, placed, InRank, ranking_of, Ranking, Standing, AnsweredOn, asked_on, standing_of, at_place}
 use Rattle.rules.specs.Runs.{run, opened}
 use Rattle.rules.proofs.Cases.{if_both}
 use Rattle.rules.proofs.Keys.{first_then, first_not_back, first_total}
@@ -173,11 +173,3 @@ one_answer bid offer room cs code place r = by_side (side_from code)
     by_side : (side : Option Side) → AnsweredOn m side place r ↔ (r ≡ asked_on m side place)
     by_side None = ((λ e. e), λ e. e)
     by_side (Some s) = let h = one_ranking bid offer room cs s in one_answer_on m place r s h.0 h.1
-
--- Places
-
-pub index_told : (k : ℕ) (r : Option ℕ) → SomeIff r (1 ≤ k) (k - 1) → r ≡ index_of k
-index_told zero None h = refl
-index_told zero (Some i) h = absurd (omega (arith, h.0))
-index_told (suc k) None h = absurd (h (omega arith))
-index_told (suc k) (Some i) h = let e : i ≡ k = omega (arith, h.1) in ap Some e

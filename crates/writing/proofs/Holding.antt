@@ -1,18 +1,17 @@
 -- A page that holds orders holds one more after an order is written, and the same where it does not fit.
--- Cite holds_order with lawful_width for one order, kept_same for one that is kept, wholes_more and wholes_stop for a
--- list of them, answer_reads for a whole register.
+-- Cite holds_order with lawful_width for one order, wholes_more and wholes_stop for a list of them, answer_reads for a
+-- whole register.
 use Rattle.std.proofs.Common.{◌≡◌, ℕ, ◌+◌, ◌-◌, ◌^◌, ◌<◌, ◌≤◌, Bool, true, false, cond, leb, List, [], ◌∷◌, ◌++◌, length, take, drop, ℤ, pos, negsuc, Result, sym, refl, ap, ◌∙◌, subst, append_assoc, append-nil, arith, MatchResult}
 use Rattle.std.specs.List.{AllByRecursion as Every}
 use Rattle.std.proofs.lemmas.List.{length-append, length-take-le, take_at, flat_map_more}
 use Rattle.std.proofs.ByRecursion.{All-push}
 use Rattle.std.proofs.lemmas.Bool.{leb-true, and_parts, cond-true, cond-false}
 use Rattle.terms.specs.declared.lawful.Terms.{Terms}
-use Rattle.terms.specs.declared.kinds.Draft.{Draft}
-use Rattle.terms.specs.Terms.{OrderTerms, offset_in_range}
+use Rattle.terms.specs.Terms.{offset_in_range}
 use Rattle.terms.specs.Made.{terms_of}
 use Rattle.register.specs.Layout.{Listed}
 use Rattle.writing.specs.declared.fill.NoRoom.{NoRoom}
-use Rattle.writing.specs.Orders.{Tagged, tagged_bytes, order_fields, order_bytes, register_bytes, draft_of, order_of}
+use Rattle.writing.specs.Orders.{Tagged, tagged_bytes, order_fields, order_bytes, register_bytes, order_of}
 use Rattle.writing.specs.Filling.{Page, room, put_at, fits, order_fits, fitted_fields, with_order, orders_fit, whole_orders}
 use Rattle.writing.specs.Refusal.{mark_if}
 use Rattle.writing.specs.RoundTrip.{In16Bits, InWidth, ReadsAs, Holds}
@@ -90,12 +89,6 @@ module _ (p : Page) (o : Listed) (os : List Listed) where
 
   pub wholes_stop : order_fits (room p) o ≡ false → whole_orders (room p) (o ∷ os) ≡ whole_orders (room p) (o ∷ [])
   wholes_stop h = cond-false (order_fits (room p) o) _ [] h ∙ sym (cond-false (order_fits (room p) o) (o ∷ []) [] h)
-
--- an order made of what its keeper tells is the order that it keeps
-pub kept_same : (l : Listed) (id : List ℕ) (w : OrderTerms) (left : ℕ) → id ≡ l.identifier → draft_of w l.draft.shares ≡ l.draft → left ≡ l.draft.shares → order_of id w left ≡ l
-kept_same l id w left e f g =
-    let named : Draft → Listed = λ d. record { identifier = l.identifier; draft = d } in
-    ap (λ n. order_of id w n) g ∙ ap (λ xs. order_of xs w l.draft.shares) e ∙ ap named f
 
 -- orders that fit are whole ones
 whole_all : (free : ℕ) (os : List Listed) → orders_fit free os ≡ true → whole_orders free os ≡ os

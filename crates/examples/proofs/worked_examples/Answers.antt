@@ -10,6 +10,6 @@ use Rattle.rules.specs.Calls.{swept_in, named, done_at, call}
 use Rattle.rules.specs.Runs.{run}
 use Rattle.examples.proofs.worked_examples.Goals as goal
 
-pub returns : goal.returns
+pub returns-clause-told : goal.returns-clause-told
 unfolding read_fields order_fields ranked_in reach_in resting without lower those next_partner best_displayed displayed_shares depletes trade lines sweep sweep_each end_period end_periods settle at_time swept_in named done_at call run
-returns c = record { told = refl; count = refl }
+returns-clause-told c = refl

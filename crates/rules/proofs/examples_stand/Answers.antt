@@ -1,6 +1,14 @@
-use Rattle.std.proofs.Common.{rules}
 use Rattle.rules.proofs.Table.{with_the_rules, of_priority, of_refusals, of_questions}
 use Rattle.rules.proofs.examples_stand.Goals as goal
 
-pub returns : goal.returns
-returns c = record { lot = search rules; rules = with_the_rules; priority = of_priority; refusals = of_refusals; questions = of_questions }
+pub returns-clause-rules : goal.returns-clause-rules
+returns-clause-rules c = with_the_rules
+
+pub returns-clause-priority : goal.returns-clause-priority
+returns-clause-priority c = of_priority
+
+pub returns-clause-refusals : goal.returns-clause-refusals
+returns-clause-refusals c = of_refusals
+
+pub returns-clause-questions : goal.returns-clause-questions
+returns-clause-questions c = of_questions

@@ -1,6 +1,5 @@
-use Rattle.std.proofs.Common.{rules}
 use Rattle.rules.proofs.Numbers.{orders_within_places}
 use Rattle.rules.proofs.orders_within_places.Goals as goal
 
-pub returns : goal.returns
-returns c = record { most = search rules; within = orders_within_places }
+pub returns-clause-within : goal.returns-clause-within
+returns-clause-within c = orders_within_places

@@ -6,12 +6,9 @@ use Rattle.writing.specs.Orders.{order_of}
 use Rattle.writing.specs.Writers.{page_of}
 use Rattle.book.specs.Books.{book_of}
 use Rattle.loading.specs.Written.{listed_order}
-use Rattle.loading.proofs.OrdersWritten.{SoWritten, written_none, written_more, written_all, written_half, rows_listed, row_next, book_written}
+use Rattle.loading.proofs.OrdersWritten.{SoWritten, written_more, written_all, written_half, rows_listed, row_next, book_written}
 use Rattle.loading.proofs.Tickets.{tickets_again}
 use Rattle.loading.proofs.write.write_book.Goals as goal
-
-pub loop-row-init : goal.loop-row-init
-loop-row-init g c = (search rules, written_none (page_of c.new-writer.result) (rows_listed c.resting_orders-row-items.result.now) c.new-writer.ensures.reads_back)
 
 pub loop-row-preserved : goal.loop-row-preserved
 loop-row-preserved g c =

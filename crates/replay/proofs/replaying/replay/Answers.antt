@@ -1,7 +1,4 @@
-use Rattle.std.proofs.Common.{List, vec_items, subst, rules}
-use Rattle.std.proofs.lemmas.List.{take_all}
-use Rattle.replay.specs.declared.calls.Call.{Call}
-use Rattle.replay.specs.Replayed.{Followed}
+use Rattle.std.proofs.Common.{vec_items, rules}
 use Rattle.replay.proofs.Follows.{followed_none, followed_more}
 use Rattle.replay.proofs.replaying.replay.Goals as goal
 
@@ -21,8 +18,3 @@ loop-call-preserved g c = (
       (vec_items c.loop-call.answers) (vec_items c.push_reserved.new.self) c.carry_out.result c.loop-call-test.true c.call-item.is c.push_reserved.ensures.items
       c.loop-call.invariant.2 c.carry_out.ensures,
 )
-
-pub returns : goal.returns
-returns g c =
-    subst (λ (cs : List Call). Followed c.args.book.now c.loop-call.book cs (vec_items c.loop-call.answers))
-    (take_all c.loop-call.call-index c.args.calls.now c.loop-call-test.false) c.loop-call.invariant.2

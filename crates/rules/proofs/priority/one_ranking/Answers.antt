@@ -1,5 +1,8 @@
-use Rattle.rules.proofs.Ranking.{index_told, one_ranking, one_answer}
+use Rattle.rules.proofs.Ranking.{one_ranking, one_answer}
 use Rattle.rules.proofs.priority.one_ranking.Goals as goal
 
-pub returns : goal.returns
-returns c = record { index = index_told c.args.place c.checked_sub.result c.checked_sub.ensures; one = one_ranking; answer = one_answer }
+pub returns-clause-one : goal.returns-clause-one
+returns-clause-one c = one_ranking
+
+pub returns-clause-answer : goal.returns-clause-answer
+returns-clause-answer c = one_answer

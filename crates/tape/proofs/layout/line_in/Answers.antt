@@ -21,10 +21,10 @@ returns-then-place-eq0 c =
     ] in
     record { told = none; reads_back_what_was_written = back xs c.args.place None none }
 
-pub returns : goal.returns
-returns c =
+pub returns-clause-reads_back_what_was_written : goal.returns-clause-reads_back_what_was_written
+returns-clause-reads_back_what_was_written c =
     let xs = c.args.bytes.now in
     let place = c.args.place in
     let pos : 0 < place = omega arith in
     let here = c.read_line.ensures ∙ row_at xs place ((place - 1) * 43) ((place - 1) * 43 + 43 - (place - 1) * 43) pos (omega arith) (omega arith) in
-    record { told = here; reads_back_what_was_written = back xs place c.read_line.result here }
+    back xs place c.read_line.result here

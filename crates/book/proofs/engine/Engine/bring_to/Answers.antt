@@ -4,20 +4,19 @@ use Rattle.book.proofs.Alike.{same_book}
 use Rattle.book.proofs.Kept.{tied_kept}
 use Rattle.book.proofs.engine.Engine.bring_to.Goals as goal
 
-pub returns : goal.returns
+pub returns-clause-book : goal.returns-clause-book
 unfolding at_time
-returns g c =
+returns-clause-book g c h k = same_book (c.tidy.ensures.market ∙ c.settle.ensures.market h k) refl c.tidy.ensures.entries
+
+pub returns-clause-tidied : goal.returns-clause-tidied
+returns-clause-tidied g c =
     let d = g.D.Directory in
     let here = c.args.self.now in
     record {
-      book = λ h k. same_book (c.tidy.ensures.market ∙ c.settle.ensures.market h k) refl c.tidy.ensures.entries;
-      tidied =
-          record {
-            tied = λ tied.
-                c.tidy.ensures.tidied.tied
-                (tied_kept (d.number here.directory) (d.count here.directory) (vec_items here.market.table.rows) (vec_items c.settle.new.self.table.rows) c.settle.ensures.rows tied);
-            rests = c.tidy.ensures.tidied.rests;
-            capacity = c.tidy.ensures.tidied.capacity ∙ c.settle.ensures.capacity;
-            room = c.tidy.ensures.tidied.room;
-          };
+      tied = λ tied.
+          c.tidy.ensures.tidied.tied
+          (tied_kept (d.number here.directory) (d.count here.directory) (vec_items here.market.table.rows) (vec_items c.settle.new.self.table.rows) c.settle.ensures.rows tied);
+      rests = c.tidy.ensures.tidied.rests;
+      capacity = c.tidy.ensures.tidied.capacity ∙ c.settle.ensures.capacity;
+      room = c.tidy.ensures.tidied.room;
     }

@@ -1,5 +1,5 @@
 use Rattle.std.proofs.Common.{length, ap, arith}
-use Rattle.book.proofs.Opened.{new_book, new_sound}
+use Rattle.book.proofs.Opened.{new_sound}
 use Rattle.book.proofs.state.Book.open.Goals as goal
 
 pub invariant_of-result : goal.invariant_of-result
@@ -11,8 +11,3 @@ invariant_of-result g c =
           c.clear.ensures table.1;
       knows_room = omega (arith, c.free_lines-room.ensures, ap length table.0);
     }
-
-pub returns : goal.returns
-returns g c =
-    let table = c.in-Ok.ensures in
-    new_book g.D.Directory g.T.Tape c.clear.new.self c.args.tape c.in-Ok.table c.free_lines-room.result c.args.quote.bid c.args.quote.offer table.0 table.2

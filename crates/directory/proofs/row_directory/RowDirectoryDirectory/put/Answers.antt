@@ -1,30 +1,17 @@
-use Rattle.std.proofs.Common.{◌≡◌, true, [], ◌∷◌, ◌++◌, is_some, Some, None, vec_items, sym, refl, ap, ◌∙◌, append-nil, rules}
-use Rattle.terms.specs.Identifiers.{lawful_identifier}
+use Rattle.std.proofs.Common.{◌≡◌, [], ◌∷◌, ◌++◌, is_some, Some, None, vec_items, sym, ap, ◌∙◌, append-nil, rules}
 use Rattle.directory.specs.Entries.{number_in, entry_id, distinct}
-use Rattle.directory.specs.Rows.{row_number, row_count}
 use Rattle.directory.proofs.Distinct.{distinct_between}
-use Rattle.directory.proofs.Changes.{held_refused, not_held, short_enough, pair_here, pair_others}
+use Rattle.directory.proofs.Changes.{not_held, pair_here, pair_others}
 use Rattle.directory.proofs.row_directory.RowDirectoryDirectory.put.Goals as goal
 
-pub returns-then-is_some : goal.returns-then-is_some
-returns-then-is_some c =
-    let self = c.args.self.now in
-    let id = c.args.id.now in
-    let lawful : lawful_identifier id ≡ true = sym c.lawful_identifier.ensures ∙ c.if-not-lawful_identifier.false in
-    let held : is_some (row_number self id) ≡ true = ap is_some (sym c.find.ensures) ∙ sym c.is_some.ensures ∙ c.if-is_some.true in
-    record { because = held_refused id (row_number self id) (row_count self) lawful held; same = refl; same_count = refl }
-
-pub entry_of-requires : goal.entry_of-requires
-entry_of-requires c = short_enough c.args.id.now (sym c.lawful_identifier.ensures ∙ c.if-not-lawful_identifier.false)
-
-pub invariant_of-self : goal.invariant_of-self
-invariant_of-self c =
+pub invariant_of-self-clause-apart : goal.invariant_of-self-clause-apart
+invariant_of-self-clause-apart c =
     let self = c.args.self.now in
     let es = vec_items self.rows in
     let e = c.entry_of.result in
     let fresh : number_in es c.args.id.now ≡ None = not_held _ (ap is_some (sym c.find.ensures) ∙ sym c.is_some.ensures ∙ c.if-is_some.false) in
     let none : number_in (es ++ []) (entry_id e) ≡ None = ap (λ xs. number_in xs (entry_id e)) (append-nil es) ∙ ap (number_in es) c.entry_of.ensures.0 ∙ fresh in
-    record { roomy = search rules; few = search rules; apart = ap distinct c.push_reserved.ensures.items ∙ distinct_between es [] e none (ap distinct (append-nil es) ∙ self.apart) }
+    ap distinct c.push_reserved.ensures.items ∙ distinct_between es [] e none (ap distinct (append-nil es) ∙ self.apart)
 
 pub returns : goal.returns
 returns c =

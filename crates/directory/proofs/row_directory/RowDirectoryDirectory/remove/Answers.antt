@@ -1,4 +1,4 @@
-use Rattle.std.proofs.Common.{suc, ◌++◌, get_or, take, drop, Some, vec_items, sym, ap, ◌∙◌, rules}
+use Rattle.std.proofs.Common.{suc, ◌++◌, get_or, take, drop, Some, vec_items, sym, ap, ◌∙◌}
 use Rattle.directory.specs.declared.entries.Entry.{Entry}
 use Rattle.directory.specs.Entries.{number_in, distinct}
 use Rattle.directory.proofs.Distinct.{distinct_without}
@@ -6,23 +6,18 @@ use Rattle.directory.proofs.Changes.{pair_others}
 use Rattle.directory.proofs.Standing.{row_none, row_stands, rows_split, standing_number}
 use Rattle.directory.proofs.row_directory.RowDirectoryDirectory.remove.Goals as goal
 
-pub invariant_of-self : goal.invariant_of-self
-invariant_of-self c =
+pub invariant_of-self-clause-apart : goal.invariant_of-self-clause-apart
+invariant_of-self-clause-apart c =
     let self = c.args.self.now in
     let es = vec_items self.rows in
     let i = c.in_ok-i.i in
     let stands = row_stands es c.args.id.now i (sym c.row_of.ensures ∙ c.in_ok-i.was) in
     let split = rows_split es i c.remove.result stands.within in
     let rest = distinct_without (take i es) (drop (suc i) es) (get_or es i c.remove.result) (ap distinct (sym split) ∙ self.apart) in
-    record { roomy = search rules; few = search rules; apart = ap distinct c.remove.ensures.items ∙ rest.1 }
+    ap distinct c.remove.ensures.items ∙ rest.1
 
-pub returns-in_err-i : goal.returns-in_err-i
-returns-in_err-i c =
-    let self = c.args.self.now in
-    record {
-      told = c.from_residual.ensures ∙ sym (row_none (vec_items self.rows) c.args.id.now (sym c.row_of.ensures ∙ c.in_err-i.was));
-      left = search rules;
-    }
+pub returns-in_err-i-clause-told : goal.returns-in_err-i-clause-told
+returns-in_err-i-clause-told c = c.from_residual.ensures ∙ sym (row_none (vec_items c.args.self.now.rows) c.args.id.now (sym c.row_of.ensures ∙ c.in_err-i.was))
 
 pub returns : goal.returns
 returns c =

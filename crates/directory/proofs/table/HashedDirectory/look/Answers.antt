@@ -1,10 +1,7 @@
 use Rattle.std.proofs.Common.{◌≡◌, ℕ, ◌+◌, ◌%◌, ◌<◌, length, get_or, Some, None, vec_items, sym, ap, ◌∙◌, arith}
 use Rattle.std.proofs.lemmas.List.{get_or_default}
-use Rattle.directory.proofs.Look.{look_starts, look_goes_on, look_finds, look_ends, look_never_fails}
+use Rattle.directory.proofs.Look.{look_goes_on, look_finds, look_ends, look_never_fails}
 use Rattle.directory.proofs.table.HashedDirectory.look.Goals as goal
-
-pub loop-step-init : goal.loop-step-init
-loop-step-init c = look_starts (vec_items c.args.self.now.places) c.args.id.now
 
 pub returns-in_default : goal.returns-in_default
 returns-in_default c =

@@ -1,5 +1,5 @@
-use Rattle.std.proofs.Common.{◌<◌, ltb, [], ◌∷◌, ◌++◌, vec_items, vec_len, sym, ap, ◌∙◌, arith, rules}
-use Rattle.std.proofs.lemmas.Bool.{lt-ltb, and_from}
+use Rattle.std.proofs.Common.{◌<◌, [], ◌∷◌, ◌++◌, vec_items, ap, ◌∙◌, arith}
+use Rattle.std.proofs.lemmas.Bool.{lt-ltb}
 use Rattle.rules.specs.Market.{with_orders}
 use Rattle.orders.specs.Rows.{orders_in, rising}
 use Rattle.orders.specs.Seen.{market_with}
@@ -7,18 +7,12 @@ use Rattle.orders.specs.Changes.{newest_number}
 use Rattle.orders.proofs.Joined.{orders_in_append, orders_in_one, rising_push}
 use Rattle.orders.proofs.table.Table.join.Goals as goal
 
-pub invariant_of-self : goal.invariant_of-self
-invariant_of-self c =
+pub invariant_of-self-clause-ascending : goal.invariant_of-self-clause-ascending
+invariant_of-self-clause-ascending c =
     let self = c.args.self.now in
     let rows = vec_items self.rows in
     let above : newest_number 0 rows < c.args.row.number = omega arith in
-    record { room = search rules; few = search rules; ascending = ap (rising 0) c.push_reserved.ensures.items ∙ rising_push 0 rows c.args.row self.ascending above }
-
-pub returns-clause-accepted : goal.returns-clause-accepted
-returns-clause-accepted c =
-    let rows = c.args.self.now.rows in
-    let newest = newest_number 0 (vec_items rows) in
-    sym (and_from (ltb (vec_len rows) 65) (ltb newest c.args.row.number) (lt-ltb (vec_len rows) 65 (omega arith)) (lt-ltb newest c.args.row.number (omega arith)))
+    ap (rising 0) c.push_reserved.ensures.items ∙ rising_push 0 rows c.args.row self.ascending above
 
 pub returns-clause-orders : goal.returns-clause-orders
 returns-clause-orders c ok some =

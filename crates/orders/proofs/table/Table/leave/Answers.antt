@@ -1,14 +1,14 @@
-use Rattle.std.proofs.Common.{◌≡◌, vec_items, sym, ap, ◌∙◌, rules}
+use Rattle.std.proofs.Common.{vec_items, sym, ap, ◌∙◌}
 use Rattle.rules.specs.Market.{with_orders, without}
 use Rattle.orders.specs.Rows.{orders_in}
 use Rattle.orders.specs.Seen.{market_with}
-use Rattle.orders.proofs.Changed.{without_at, without_by_number, absent, rising_set, only_shares, unchanged}
+use Rattle.orders.proofs.Changed.{without_at, without_by_number, absent, rising_set, only_shares}
 use Rattle.orders.proofs.table.Table.leave.Goals as goal
 
-pub invariant_of-self : goal.invariant_of-self
-invariant_of-self c =
+pub invariant_of-self-clause-ascending : goal.invariant_of-self-clause-ascending
+invariant_of-self-clause-ascending c =
     let self = c.args.self.now in
-    record { room = search rules; few = search rules; ascending = rising_set 0 (vec_items self.rows) c.in-Some.i c.index_mut-row.result.now 0 c.index_mut-row.ensures.value ∙ self.ascending }
+    rising_set 0 (vec_items self.rows) c.in-Some.i c.index_mut-row.result.now 0 c.index_mut-row.ensures.value ∙ self.ascending
 
 pub returns-in-Some : goal.returns-in-Some
 returns-in-Some c =
@@ -24,15 +24,10 @@ returns-in-Some c =
       rows = only_shares c.args.number rows c.in-Some.i row 0 at is;
     }
 
-pub returns-in_default : goal.returns-in_default
-returns-in_default c =
-    let self = c.args.self.now in
+pub returns-in_default-clause-orders : goal.returns-in_default-clause-orders
+returns-in_default-clause-orders c =
     let k = c.args.number in
-    let same : without k (orders_in (vec_items self.rows)) ≡ orders_in (vec_items self.rows) =
-    absent k (without k) (without_by_number k) (orders_in (vec_items self.rows)) c.in_default.ensures
-    in
-    record {
-      orders = sym same;
-      market = λ tape. ap (λ os. with_orders os (market_with tape self)) (sym same);
-      rows = unchanged k (vec_items self.rows);
-    }
+    sym (absent k (without k) (without_by_number k) (orders_in (vec_items c.args.self.now.rows)) c.in_default.ensures)
+
+pub returns-in_default-clause-market : goal.returns-in_default-clause-market
+returns-in_default-clause-market c tape = ap (λ os. with_orders os (market_with tape c.args.self.now)) (returns-in_default-clause-orders c)

@@ -1,6 +1,5 @@
-use Rattle.std.proofs.Common.{◌-◌, ◌<◌, ◌≤◌, length, sym, ap, ◌∙◌, arith}
-use Rattle.std.proofs.lemmas.List.{nil_from_length}
-use Rattle.std.proofs.lemmas.Bool.{ltb-true, ltb-false}
+use Rattle.std.proofs.Common.{◌-◌, ◌<◌, length, sym, ap, ◌∙◌, arith}
+use Rattle.std.proofs.lemmas.Bool.{ltb-true}
 use Rattle.orders.specs.declared.row.Row.{Row}
 use Rattle.orders.specs.Changes.{newest_number}
 use Rattle.orders.proofs.Joined.{newest_last}
@@ -14,9 +13,3 @@ returns-in-Some c =
     ap (λ (r : Row). r.number) c.in-Some.ensures.item.1
     ∙ sym (newest_last 0 rows (length rows - 1) row (omega arith))
     ∙ ap (newest_number 0) c.deref.ensures.value
-
-pub returns-in-None : goal.returns-in-None
-returns-in-None c =
-    let rows = c.deref.result.now in
-    let none : length rows ≤ 0 = ltb-false 0 (length rows) (sym c.in-None.ensures.item.0) in
-    ap (newest_number 0) (sym (nil_from_length rows (omega arith)) ∙ c.deref.ensures.value)

@@ -1,4 +1,4 @@
-use Rattle.std.proofs.Common.{◌≡◌, vec_items, sym, ap, ◌∙◌, subst, rules}
+use Rattle.std.proofs.Common.{vec_items, sym, ap, ◌∙◌, subst}
 use Rattle.rules.specs.Market.{with_orders}
 use Rattle.orders.specs.Rows.{orders_in, rising}
 use Rattle.orders.specs.Seen.{market_with}
@@ -6,25 +6,21 @@ use Rattle.orders.specs.Changes.{Retired}
 use Rattle.orders.proofs.Retired.{retired, retired_rising, retired_orders}
 use Rattle.orders.proofs.table.Table.retire.Goals as goal
 
-pub invariant_of-self : goal.invariant_of-self
-invariant_of-self c =
+pub invariant_of-self-clause-ascending : goal.invariant_of-self-clause-ascending
+invariant_of-self-clause-ascending c =
     let self = c.args.self.now in
-    let up = retired_rising (vec_items self.rows) c.in_ok-i.i c.remove-row.result c.in_ok-i.ensures c.remove-row.ensures.value self.ascending in
-    record { room = search rules; few = search rules; ascending = ap (rising 0) c.remove-row.ensures.items ∙ up }
+    ap (rising 0) c.remove-row.ensures.items ∙ retired_rising (vec_items self.rows) c.in_ok-i.i c.remove-row.result c.in_ok-i.ensures c.remove-row.ensures.value self.ascending
 
-pub returns : goal.returns
-returns c =
-    let self = c.args.self.now in
-    let rows = vec_items self.rows in
+pub returns-clause-orders : goal.returns-clause-orders
+returns-clause-orders c =
+    ap orders_in c.remove-row.ensures.items
+    ∙ retired_orders (vec_items c.args.self.now.rows) c.in_ok-i.i c.remove-row.result c.in_ok-i.ensures c.remove-row.ensures.value
+
+pub returns-clause-market : goal.returns-clause-market
+returns-clause-market c tape = ap (λ os. with_orders os (market_with tape c.args.self.now)) (returns-clause-orders c)
+
+pub returns-clause-told : goal.returns-clause-told
+returns-clause-told c =
+    let rows = vec_items c.args.self.now.rows in
     let row = c.remove-row.result in
-    let at = c.in_ok-i.ensures in
-    let items = c.remove-row.ensures.items in
-    let after : orders_in (vec_items c.remove-row.new.self) ≡ orders_in rows =
-    ap orders_in items ∙ retired_orders rows c.in_ok-i.i row at c.remove-row.ensures.value
-    in
-    record {
-      orders = after;
-      market = λ tape. ap (λ os. with_orders os (market_with tape self)) after;
-      told = subst (λ xs. Retired rows xs row.identifier) (sym items) (retired rows c.in_ok-i.i row at c.remove-row.ensures.value);
-      count = c.remove-row.ensures.len;
-    }
+    subst (λ xs. Retired rows xs row.identifier) (sym c.remove-row.ensures.items) (retired rows c.in_ok-i.i row c.in_ok-i.ensures c.remove-row.ensures.value)

@@ -1,13 +1,10 @@
-use Rattle.std.proofs.Common.{◌≡◌, ◌+◌, Some, None, vec_items, refl, ap, ◌∙◌, arith}
+use Rattle.std.proofs.Common.{◌+◌, Some, None, vec_items, ap, ◌∙◌, arith}
 use Rattle.std.specs.Option.{option_map}
-use Rattle.rules.specs.Questions.{ranking_of, at_place}
+use Rattle.rules.specs.Questions.{ranking_of}
 use Rattle.orders.specs.Rows.{row_order}
 use Rattle.orders.specs.Seen.{seen}
 use Rattle.questions.proofs.Places.{ascends, next_place, within, past}
 use Rattle.questions.proofs.ranked.Ranking.at.Goals as goal
-
-pub loop-init : goal.loop-init
-loop-init c = record { there = refl; within = omega arith }
 
 pub returns-in_err-next : goal.returns-in_err-next
 returns-in_err-next c =
@@ -27,9 +24,3 @@ loop-preserved c =
     let up = ascends 0 (vec_items c.args.self.now.table.now.rows) c.args.self.now.table.now.ascending in
     let at = next_place m c.args.self.now.side i (option_map row_order c.loop.row) (Some next) up c.loop.invariant.there c.loop.invariant.within c.in_ok-next.ensures in
     record { there = at; within = within (i + 1) os next at }
-
-pub returns : goal.returns
-returns c =
-    let m = seen c.args.self.now.table.now in
-    let same : c.loop.counter ≡ c.args.place = omega (arith, c.loop.auto.counter-end, c.loop-test.false) in
-    c.loop.invariant.there ∙ ap (λ k. at_place k (ranking_of m c.args.self.now.side m.orders)) same

@@ -4,7 +4,7 @@ use Rattle.rules.specs.Laws.{RefusalLeaves}
 use Rattle.rules.proofs.Refusals.{refusal_leaves}
 use Rattle.rules.proofs.refusal.Refusal.moves_clock.Goals as goal
 
-pub returns : goal.returns
-returns c =
+pub returns-clause-leaves : goal.returns-clause-leaves
+returns-clause-leaves c =
     let told : c.gt.result ≡ after_clock c.args.self = grind rules in
-    record { told = told; leaves = subst (RefusalLeaves c.args.self) (sym told) (refusal_leaves c.args.self) }
+    subst (RefusalLeaves c.args.self) (sym told) (refusal_leaves c.args.self)
