@@ -26,7 +26,7 @@ pub fn load<D: Directory, T: Tape>(
     Ok(desk.load(time, register.as_slice(), out)?)
 }
 
-// A register of 64 orders fits: each takes at most 49 bytes.
+// A register of 64 orders fits: each takes at most 49 bytes. It is told once it stands in the file.
 pub fn write<D: Directory, T: Tape>(
     rt: &HostRuntime,
     line: InputLine<'_>,
@@ -36,11 +36,13 @@ pub fn write<D: Directory, T: Tape>(
 ) -> anyhow::Result<()> {
     let file = path(file)?;
     let mut buffer = [0u8; 4096];
-    let Some(written) = desk.write(&mut buffer, out)? else {
-        return Ok(());
+    let written = match desk.write(&mut buffer) {
+        Ok(written) => written,
+        Err(no_room) => return Ok(out.refused(no_room.number())?),
     };
     let Some(register) = buffer.get(0..written) else {
         return Ok(());
     };
-    fs::write(rt, file, register).map_err(|_| line.failed("write", file))
+    fs::write(rt, file, register).map_err(|_| line.failed("write", file))?;
+    Ok(out.line("written", &[written as u64])?)
 }

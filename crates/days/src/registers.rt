@@ -1,4 +1,7 @@
 // Registers of a day: loaded into the book, and written from it.
+ghost use Rattle.book.specs.Books.{book_of};
+ghost use Rattle.loading.specs.Written.{Written};
+
 use crate::desk::Desk;
 use crate::telling::Output;
 use directory::directories::Directory;
@@ -9,6 +12,7 @@ use loading::write::write_book;
 use roll::log::Roll;
 use std::alloc::AllocError;
 use tape::tapes::Tape;
+use writing::fill::NoRoom;
 
 // How many slips a load has places for.
 const SLIPS: usize = 64;
@@ -38,17 +42,11 @@ impl<D: Directory, T: Tape> Desk<D, T> {
         self.tell_trades(out)
     }
 
-    // Writes the resting orders into the buffer, and tells how many bytes they take, or that they do not fit.
-    pub fn write(&self, buffer: &mut [u8], out: &mut Output) -> Result<Option<usize>, AllocError> {
-        match write_book(&self.book, buffer) {
-            Ok(written) => {
-                out.line("written", &[written as u64])?;
-                Ok(Some(written))
-            }
-            Err(no_room) => {
-                out.refused(no_room.number())?;
-                Ok(None)
-            }
-        }
+    // Writes the resting orders into the buffer: how many bytes they take, or that they do not fit. Who puts them into a file tells it
+    // when they are there.
+    pub fn write(&self, buffer: &mut [u8]) -> Result<usize, NoRoom>
+        ensures { Written (book_of T.Tape self.now.book.engine) buffer.old buffer.new result }
+    {
+        write_book(&self.book, buffer)
     }
 }
