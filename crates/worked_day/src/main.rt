@@ -1,4 +1,4 @@
-// One worked day, read from standard input, on each of the four pairs of makes; then entries until no more are accepted.
+// The day files that are named, each on the four pairs of makes; then entries until no more are accepted.
 #![tactic(auto)]
 
 mod day;
@@ -7,21 +7,24 @@ mod makes;
 use crate::makes::{on_bytes, on_records};
 use directory::rows::RowDirectory;
 use directory::table::HashedDirectory;
-use std::io::{Read, Write};
+use std::io::Write;
+use std::{env, fs};
 
 fn run(rt: &HostRuntime) -> anyhow::Result<()> {
     let heap = rt.alloc();
-    let mut text = Vec::new(heap);
-    rt.stdin().read_to_end(&mut text)?;
-    let text = text.as_slice();
+    let mut days = Vec::new(heap);
+    for file in env::args(rt)?.skip(1) {
+        days.push(fs::read(rt, file.as_str())?)?;
+    }
+    let days = days.as_slice();
     let rows = || RowDirectory::new(heap);
     let hashed = || HashedDirectory::new(heap);
-    let first = on_records(heap, text, rows)?;
+    let first = on_records(heap, days, rows)?;
     let first = first.as_bytes();
     rt.stdout().write_all(first)?;
-    let rows_bytes = on_bytes(heap, text, rows)?.as_bytes() == first;
-    let hashed_records = on_records(heap, text, hashed)?.as_bytes() == first;
-    let hashed_bytes = on_bytes(heap, text, hashed)?.as_bytes() == first;
+    let rows_bytes = on_bytes(heap, days, rows)?.as_bytes() == first;
+    let hashed_records = on_records(heap, days, hashed)?.as_bytes() == first;
+    let hashed_bytes = on_bytes(heap, days, hashed)?.as_bytes() == first;
     println!(rt; "the same on rows and bytes: {rows_bytes}")?;
     println!(rt; "the same on hashed and records: {hashed_records}")?;
     println!(rt; "the same on hashed and bytes: {hashed_bytes}")?;
