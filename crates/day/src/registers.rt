@@ -1,14 +1,16 @@
 // The two commands that reach files. Each takes the parts that it uses: writing only looks at the desk.
 use crate::input::InputLine;
 use anyhow::Context;
+use days::commands::Expected;
 use days::desk::Desk;
 use days::telling::Output;
 use directory::directories::Directory;
 use std::fs;
 use tape::tapes::Tape;
 
-fn path(file: &[u8]) -> anyhow::Result<&str> {
-    std::str::from_utf8(file).context("a file's name is not text")
+// A name that is no text is no name of a file.
+fn path<'a>(line: InputLine<'_>, file: &'a [u8], form: Expected) -> anyhow::Result<&'a str> {
+    Ok(std::str::from_utf8(file).map_err(|_| line.bad(form))?)
 }
 
 pub fn load<D: Directory, T: Tape>(
@@ -19,7 +21,7 @@ pub fn load<D: Directory, T: Tape>(
     file: &[u8],
     out: &mut Output,
 ) -> anyhow::Result<()> {
-    let file = path(file)?;
+    let file = path(line, file, Expected::Load)?;
     let Ok(register) = fs::read(rt, file) else {
         return Err(line.failed("read", file));
     };
@@ -34,15 +36,15 @@ pub fn write<D: Directory, T: Tape>(
     file: &[u8],
     out: &mut Output,
 ) -> anyhow::Result<()> {
-    let file = path(file)?;
+    let file = path(line, file, Expected::Write)?;
     let mut buffer = [0u8; 4096];
     let written = match desk.write(&mut buffer) {
         Ok(written) => written,
-        Err(no_room) => return Ok(out.refused(no_room.number())?),
+        Err(no_room) => return Ok(out.line("refused", &[u64::from(no_room.number())])?),
     };
-    let Some(register) = buffer.get(0..written) else {
-        return Ok(());
-    };
+    let register = buffer
+        .get(0..written)
+        .context("the register is longer than its buffer")?;
     fs::write(rt, file, register).map_err(|_| line.failed("write", file))?;
     Ok(out.line("written", &[written as u64])?)
 }

@@ -62,7 +62,7 @@ impl Output {
         self.bytes.extend_from_slice(b"\n")
     }
 
-    pub fn refused(&mut self, number: u8) -> Result<(), AllocError> {
+    pub(crate) fn refused(&mut self, number: u8) -> Result<(), AllocError> {
         self.line("refused", &[u64::from(number)])
     }
 

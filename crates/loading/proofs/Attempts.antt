@@ -1,6 +1,5 @@
--- One order: what a refused ticket, and an entry that was carried out, make of a book. Cite no_ticket, ticketed,
--- entered_so, refused_so, pushed_so and full_so.
-use Rattle.std.proofs.Common.{◌≡◌, ℕ, ◌-◌, length, Some, None, Ok, Err, Result, sym, refl, ap, ◌∙◌, arith}
+-- One order: what a refused ticket, and an entry, make of a book. Cite no_ticket, ticketed, refused_so, pushed_so and full_so.
+use Rattle.std.proofs.Common.{◌≡◌, ℕ, ◌-◌, length, Some, Ok, Err, Result, sym, refl, ap, ◌∙◌, arith}
 use Rattle.std.specs.Prelude.{MatchResult}
 use Rattle.terms.specs.Terms.{OrderTerms}
 use Rattle.register.specs.declared.faults.Fault.{Fault}
@@ -20,12 +19,7 @@ use Rattle.loading.specs.declared.faults.LoadFault.TheVariants.{Register, Book, 
 use Rattle.loading.specs.Loads.{Attempt, entry_fault, made, attempt_with}
 use Rattle.loading.specs.Loaded.{fault_of, attempt_at, Attempted}
 
--- an entry that was carried out leaves no fault
-pub entered_so : (place : ℕ) (r : Result (ℕ × ℕ × ℕ) Rejected) (Says : ℕ × ℕ × ℕ → Type 0) → MatchResult r Says (λ _. ⊥) → None ≡ entry_fault place (entry_told r)
-entered_so place (Ok v) Says h = refl
-entered_so place (Err e) Says h = absurd h
-
--- one that was refused leaves the fault of the refusal
+-- an entry that was refused leaves the fault of the refusal
 pub refused_so : (place : ℕ) (f : LoadFault) (r : Result (ℕ × ℕ × ℕ) Rejected) (Says : Rejected → Type 0) → MatchResult r (λ v. Err f ≡ Ok v) Says → ((e : Rejected) → Says e → f ≡ Book e.why place) → Some f ≡ entry_fault place (entry_told r)
 refused_so place f (Ok v) Says h so = absurd (grind (arith, h))
 refused_so place f (Err e) Says h so = ap (λ x. Some x) (so e h)

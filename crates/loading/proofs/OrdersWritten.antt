@@ -1,6 +1,6 @@
--- Orders of a book, written one after another: what is left to write comes to the same as writing them all. Cite written_none
--- at the start, row_next and written_more in a turn, written_all and written_half at the end, then book_written.
-use Rattle.std.proofs.Common.{◌≡◌, ℕ, ◌+◌, ◌<◌, List, [], ◌∷◌, ◌++◌, map, length, get_or, drop, Ok, Err, Result, sym, refl, ap, ◌∙◌, subst, append-nil}
+-- Orders of a book, written one after another: what is left to write comes to the same as writing them all. Cite row_next
+-- and written_more in a turn, written_all and written_half at the end, then book_written.
+use Rattle.std.proofs.Common.{◌≡◌, ℕ, ◌+◌, ◌<◌, List, [], ◌∷◌, ◌++◌, map, length, get_or, drop, Ok, Err, Result, sym, ap, ◌∙◌, subst, append-nil}
 use Rattle.std.specs.List.{AllByRecursion as Every}
 use Rattle.std.proofs.lemmas.List.{at_drop_more}
 use Rattle.register.specs.Layout.{Listed}
@@ -29,9 +29,6 @@ pub record AllWritten (start p : Page) (os : List Listed) (r : Result ℕ NoRoom
   pub page : p ≡ with_orders start os
   pub outcome : r ≡ mark_if (orders_fit (room start) os) p.mark
   pub holds : Holds p (whole_orders (room start) os)
-
-pub written_none : (p : Page) (os : List Listed) → Holds p [] → SoWritten p p os os
-written_none p os h = record { same = refl; fit = refl; so_far = []; holds = h; wholes = refl }
 
 module _ (start p : Page) (os : List Listed) where
   pub written_all : SoWritten start p os [] → (mark : ℕ) → mark ≡ p.mark → AllWritten start p os (Ok mark)

@@ -1,20 +1,15 @@
 -- The reasons in the order in which they are told, of an order that ranks at `price` where the midpoint is `middle`. Cite
--- no_mdo_told, at_limit_told, at_midpoint_told, without_qdp_told, with_qdp_told, and protected_told for what QDP leaves.
-use Rattle.std.proofs.Common.{◌≡◌, ℕ, ◌+◌, ◌*◌, true, false, eqb, List, Option, sym, ap, ◌∙◌}
+-- no_mdo_told, at_limit_told, at_midpoint_told, without_qdp_told and with_qdp_told.
+use Rattle.std.proofs.Common.{◌≡◌, ℕ, ◌+◌, ◌*◌, true, false, eqb, List, sym, ◌∙◌}
 use Rattle.std.proofs.lemmas.Bool.{eq-eqb, ne_eqb}
 use Rattle.terms.specs.Terms.{is_mdo}
 use Rattle.tape.specs.declared.line.Line.{Line}
-use Rattle.rules.specs.Market.{Market, Order, side_of, end_of, ranked_in}
-use Rattle.rules.specs.Questions.{Why, why, no_mdo, at_limit, at_midpoint, discretion, protection}
+use Rattle.rules.specs.Market.{Market, Order, ranked_in}
+use Rattle.rules.specs.Questions.{Why, why, no_mdo, at_limit, at_midpoint, discretion}
 use Rattle.rules.proofs.Cases.{if_true, if_false}
 use Rattle.orders.specs.Seen.{market_with, seen}
 use Rattle.orders.specs.declared.table.Table.{Table}
-use Rattle.orders.proofs.Still.{end_still}
 use Rattle.questions.specs.Meant.{protection_of}
-
-pub protected_told : (ls : List Line) (b : Table) (o : Order) (end : Option ℕ) → end ≡ end_of (side_of o) (seen b)
-    → protection (market_with ls b) o end ≡ protection_of o (market_with ls b)
-protected_told ls b o end e = ap (protection (market_with ls b) o) (e ∙ end_still ls b (side_of o))
 
 pub no_mdo_told : (m : Market) (o : Order) → false ≡ is_mdo o.terms.kind → no_mdo ≡ why m o
 unfolding why

@@ -1,19 +1,21 @@
 // A day file on a book of any makes.
 use anyhow::{Context, anyhow};
-use days::commands::{Command, read_command};
+use days::commands::{BadLine, Command, Expected, read_command};
 use days::desk::Desk;
 use days::telling::Output;
 use directory::directories::Directory;
 use rules::MOST_ENTRIES;
 use std::alloc::Global;
+use std::ops::ControlFlow;
 use tape::tapes::Tape;
 use terms::lawful::Quote;
 
-// What a day file's first command opens its book with.
+// What a day file's first command opens its book with, and how many lines it takes up to there.
 #[derive(Clone, Copy, Drop)]
 pub struct Opening {
-    pub quote: Quote,
+    quote: Quote,
     pub lines: usize,
+    taken: usize,
 }
 
 fn lawful(bid: u32, offer: u32) -> anyhow::Result<Quote> {
@@ -22,22 +24,28 @@ fn lawful(bid: u32, offer: u32) -> anyhow::Result<Quote> {
         .context("the quote is not lawful")
 }
 
-fn command(line: &[u8]) -> anyhow::Result<Option<Command<'_>>> {
-    read_command(line)
-        .ok()
-        .context("a line of a day file is none")
+// The command of the line, where it has one; `before` lines come before it.
+fn command(before: usize, line: &[u8]) -> Result<Option<Command<'_>>, BadLine> {
+    read_command(line).map_err(|expected| bad(before, expected))
+}
+
+fn bad(before: usize, expected: Expected) -> BadLine {
+    let number = (before as u64).saturating_add(1);
+    BadLine { number, expected }
 }
 
 pub fn read_opening(text: &[u8]) -> anyhow::Result<Opening> {
-    for line in text.split(|byte| *byte == b'\n') {
-        match command(line)? {
+    for (before, line) in text.split(|byte| *byte == b'\n').enumerate() {
+        match command(before, line)? {
             None => {}
             Some(Command::Book { bid, offer, lines }) => {
-                let quote = lawful(bid, offer)?;
-                let lines = lines as usize;
-                return Ok(Opening { quote, lines });
+                return Ok(Opening {
+                    quote: lawful(bid, offer)?,
+                    lines: lines as usize,
+                    taken: before.saturating_add(1),
+                });
             }
-            Some(_) => break,
+            Some(_) => return Err(bad(before, Expected::Book).into()),
         }
     }
     Err(anyhow!("a day file opens its book first"))
@@ -54,32 +62,38 @@ fn open<D: Directory + Drop, T: Tape + Drop>(
         .context("the book is not opened")
 }
 
+// Breaks where the book is to be closed.
 fn answer_line<D: Directory, T: Tape>(
     desk: &mut Desk<D, T>,
+    before: usize,
     line: &[u8],
     out: &mut Output,
-) -> anyhow::Result<()> {
-    match command(line)? {
-        None | Some(Command::Book { .. } | Command::Close) => Ok(()),
+) -> anyhow::Result<ControlFlow<()>> {
+    match command(before, line)? {
+        None => {}
+        Some(Command::Close) => return Ok(ControlFlow::Break(())),
         Some(asked) => desk
             .answer(&asked, out)?
-            .context("only calls and questions stand in these days"),
+            .context("only calls and questions stand in these days")?,
     }
+    Ok(ControlFlow::Continue(()))
 }
 
-// The lines of the text, on a new book.
+// The lines of the text after its opening, on a new book.
 pub fn play<D: Directory + Drop, T: Tape + Drop>(
     heap: Global,
-    quote: Quote,
+    opens: Opening,
     directory: D,
     tape: T,
     text: &[u8],
     out: &mut Output,
 ) -> anyhow::Result<()> {
-    let mut desk = open(heap, quote, directory, tape)?;
+    let mut desk = open(heap, opens.quote, directory, tape)?;
     out.line("opened", &[])?;
-    for line in text.split(|byte| *byte == b'\n') {
-        answer_line(&mut desk, line, out)?;
+    for (before, line) in text.split(|byte| *byte == b'\n').enumerate() {
+        if before >= opens.taken && answer_line(&mut desk, before, line, out)?.is_break() {
+            break;
+        }
     }
     desk.close(out)?;
     Ok(())
@@ -97,10 +111,10 @@ pub fn spend_entries<D: Directory + Drop, T: Tape + Drop>(
     let mut last = Output::new(heap);
     for _ in 0..MOST_ENTRIES {
         last.clear();
-        answer_line(&mut desk, line, &mut last)?;
+        answer_line(&mut desk, 0, line, &mut last)?;
     }
     out.append(&last)?;
-    answer_line(&mut desk, line, out)?;
+    answer_line(&mut desk, 0, line, out)?;
     desk.close(out)?;
     Ok(())
 }

@@ -5,6 +5,7 @@ mod day;
 mod makes;
 
 use crate::makes::{on_bytes, on_records};
+use anyhow::Context;
 use directory::rows::RowDirectory;
 use directory::table::HashedDirectory;
 use std::io::Write;
@@ -14,7 +15,9 @@ fn run(rt: &HostRuntime) -> anyhow::Result<()> {
     let heap = rt.alloc();
     let mut days = Vec::new(heap);
     for file in env::args(rt)?.skip(1) {
-        days.push(fs::read(rt, file.as_str())?)?;
+        let file = file.as_str();
+        let day = fs::read(rt, file).context(format_args!("cannot read {file}"))?;
+        days.push(day)?;
     }
     let days = days.as_slice();
     let rows = || RowDirectory::new(heap);

@@ -9,10 +9,7 @@ use tape::layout::LINE_BYTES;
 use tape::line::Line;
 use tape::records::RecordTape;
 
-// The spent entries trade with nobody: so much room is enough for the test of it.
-const LINES: usize = 72;
-
-// A tape borrows its room, which stands in the function that makes it: hence one for each make.
+// A tape borrows its room, which stands in the function that makes it: hence one for each make, with the same loop.
 pub fn on_records<D: Directory + Drop, F: Fn() -> Result<D, AllocError> + Drop>(
     heap: Global,
     days: &[Vec<u8>],
@@ -25,16 +22,10 @@ pub fn on_records<D: Directory + Drop, F: Fn() -> Result<D, AllocError> + Drop>(
         let opens = read_opening(day.as_slice())?;
         let mut room = vec![in heap; Line::default(); opens.lines]?;
         let tape = RecordTape::new(room.as_mut_slice());
-        play(
-            heap,
-            opens.quote,
-            directory()?,
-            tape,
-            day.as_slice(),
-            &mut out,
-        )?;
+        play(heap, opens, directory()?, tape, day.as_slice(), &mut out)?;
     }
-    let mut room = [Line::default(); LINES];
+    // where nothing ever rests, a tape needs no room
+    let mut room: [Line; 0] = [];
     let tape = RecordTape::new(&mut room);
     spend_entries(heap, directory()?, tape, &mut out)?;
     Ok(out)
@@ -56,16 +47,9 @@ pub fn on_bytes<D: Directory + Drop, F: Fn() -> Result<D, AllocError> + Drop>(
             .context("no memory for the tape")?;
         let mut room = vec![in heap; 0u8; size]?;
         let tape = ByteTape::new(room.as_mut_slice());
-        play(
-            heap,
-            opens.quote,
-            directory()?,
-            tape,
-            day.as_slice(),
-            &mut out,
-        )?;
+        play(heap, opens, directory()?, tape, day.as_slice(), &mut out)?;
     }
-    let mut room = [0u8; LINES * LINE_BYTES];
+    let mut room: [u8; 0] = [];
     let tape = ByteTape::new(&mut room);
     spend_entries(heap, directory()?, tape, &mut out)?;
     Ok(out)
