@@ -10,6 +10,7 @@ mod entering;
 pub mod entries;
 pub mod explanation;
 pub mod opening;
+pub mod prepared;
 pub mod quoting;
 pub mod refusals;
 pub mod state;

@@ -2,9 +2,10 @@
 ghost use Rattle.std.specs.Prelude.{◌≡◌, [], MatchResult};
 ghost use Rattle.rules.specs.Runs.{opened};
 ghost use Rattle.orders.specs.Seen.{seen};
-ghost use Rattle.book.specs.Opening.{New, Because, HandedBack};
+ghost use Rattle.book.specs.Opening.{New, Because, HandedBack, PreparedOn};
 
 use crate::engine::Engine;
+use crate::prepared::Prepared;
 use crate::refusals::{NotOpened, OpenRefusal};
 use crate::state::Book;
 use directory::directories::Directory;
@@ -17,7 +18,7 @@ use terms::lawful::Quote;
 // The table of a new book, if the tape is empty.
 fn table_for<T: Tape>(heap: Global, quote: Quote, tape: &T) -> Result<Table, OpenRefusal>
     ensures { MatchResult result
-        (λ t. (T.Tape.lines tape.now ≡ []) × (t.rows.items ≡ []) × (seen t ≡ (opened quote.bid quote.offer).market))
+        (λ t. (T.Tape.lines tape.now ≡ []) × (t.rows.items ≡ []) × (t.quote ≡ quote) × (seen t ≡ (opened quote.bid quote.offer).market))
         (λ why. Because T.Tape tape.now why) }
 {
     if tape.read(1).is_some() {
@@ -26,30 +27,49 @@ fn table_for<T: Tape>(heap: Global, quote: Quote, tape: &T) -> Result<Table, Ope
     Ok(Table::open(heap, quote)?)
 }
 
-impl<D: Directory, T: Tape> Book<D, T> {
-    // A book with nothing in it, on an emptied directory and an empty tape. All memory that it will ever use is had here. A
-    // struct of the four that are handed over would be made only to be taken apart.
-    pub fn open(
+impl<D: Directory, T: Tape> Prepared<D, T> {
+    // All memory is had here. A tape that has lines is refused before memory is asked for.
+    pub fn new(
         heap: Global,
         quote: Quote,
-        mut directory: D,
+        directory: D,
         tape: T,
-    ) -> Result<Book<D, T>, NotOpened<D, T>>
+    ) -> Result<Prepared<D, T>, NotOpened<D, T>>
         ensures { MatchResult result
-            (λ b. New T.Tape quote.bid quote.offer tape b.engine)
+            (λ p. PreparedOn quote directory tape p)
             (λ e. HandedBack T.Tape directory tape e) }
     {
-        // Directory and tape move into either answer; a closure would take them from the other.
-        let table = match table_for(heap, quote, &tape) {
-            Ok(table) => table,
-            Err(why) => {
-                return Err(NotOpened {
-                    directory,
-                    tape,
-                    why,
-                });
-            }
-        };
+        match table_for(heap, quote, &tape) {
+            Ok(table) => Ok(Prepared {
+                directory,
+                tape,
+                table,
+            }),
+            Err(why) => Err(NotOpened {
+                directory,
+                tape,
+                why,
+            }),
+        }
+    }
+
+    // Directory and tape as they were, where no book is to be opened after all.
+    pub fn hand_back(self) -> (D, T)
+        ensures directory { result.0 ≡ self.directory }
+        ensures tape { result.1 ≡ self.tape }
+    {
+        (self.directory, self.tape)
+    }
+
+    // The directory is emptied. Everything is had, so that this cannot fail.
+    pub fn open(self) -> Book<D, T>
+        ensures { New T.Tape self.table.quote.bid self.table.quote.offer self.tape result.engine }
+    {
+        let Prepared {
+            mut directory,
+            tape,
+            table,
+        } = self;
         directory.clear();
         let room = tape.free_lines();
         let engine = Engine {
@@ -59,6 +79,22 @@ impl<D: Directory, T: Tape> Book<D, T> {
             entries: 0,
             room,
         };
-        Ok(Book { engine })
+        Book { engine }
+    }
+}
+
+impl<D: Directory, T: Tape> Book<D, T> {
+    // A book with nothing in it, on an emptied directory and an empty tape.
+    pub fn open(
+        heap: Global,
+        quote: Quote,
+        directory: D,
+        tape: T,
+    ) -> Result<Book<D, T>, NotOpened<D, T>>
+        ensures { MatchResult result
+            (λ b. New T.Tape quote.bid quote.offer tape b.engine)
+            (λ e. HandedBack T.Tape directory tape e) }
+    {
+        Ok(Prepared::new(heap, quote, directory, tape)?.open())
     }
 }

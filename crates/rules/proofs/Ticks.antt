@@ -71,6 +71,9 @@ timely_same d b c l (inr e) =
 timely_after : (d : Call) (b : Book) → timely d b ≡ true → b.clock ≤ time_of d
 timely_after d b e = leb-true b.clock (time_of d) (and_parts (leb b.clock (time_of d)) _ e).0
 
+timely_day : (d : Call) (b : Book) → timely d b ≡ true → time_of d ≤ last_moment
+timely_day d b e = leb-true (time_of d) last_moment (and_parts (leb b.clock (time_of d)) _ e).1
+
 -- both are at the call's time
 together : (d : Call) (b c : Book) → Behind c b → b.clock ≤ time_of d → at_time (time_of d) b ≡ at_time (time_of d) c
 together d b c h l = ap (at_time (time_of d)) h.same ∙ at_time_then b.clock (time_of d) c l
@@ -106,10 +109,10 @@ shared_step free d b c n s h q =
           near = inl refl;
         }))
 
--- a tick leaves the book behind as it was
+-- a tick leaves the book behind as it was, and moves the clock within the day only
 record Ticked (t : ℕ) (b r : Book) (c : Book) : Type 0 where
   behind : Behind c r
-  near : (r ≡ b) ⊎ (r.clock ≡ t)
+  near : (r ≡ b) ⊎ ((r.clock ≡ t) × (t ≤ last_moment))
 
 tick_step : (free t : ℕ) (b c : Book) → ((call free (tick t) b).answer ≡ refused TapeShort → ⊥) → Behind c b
     → Ticked t b (call free (tick t) b).book c
@@ -123,7 +126,7 @@ tick_step free t b c n h = by_tests (cases_Bool (timely (tick t) b)) (cases_Bool
         let l : b.clock ≤ t = timely_after (tick t) b f in
         subst (λ (v : Outcome). Ticked t b v.book c) (sym (call_done free (tick t) b refl f g))
         (subst (λ v. Ticked t b v c) (sym (together (tick t) b c h l))
-        (record { behind = record { before = subst (λ k. c.clock ≤ k) (sym (at_time_clock t c)) (omega (arith, h.before)); same = ap (λ k. at_time k c) (sym (at_time_clock t c)) }; near = inr (at_time_clock t c) }))
+        (record { behind = record { before = subst (λ k. c.clock ≤ k) (sym (at_time_clock t c)) (omega (arith, h.before)); same = ap (λ k. at_time k c) (sym (at_time_clock t c)) }; near = inr (at_time_clock t c, timely_day (tick t) b f) }))
 
 record Follows (room : ℕ) (cs : List Call) (b c : Book) : Type 0 where
   answers : answers_to_shared cs (run room cs b).answers ≡ (quiet (shared cs) c).answers
@@ -142,9 +145,10 @@ near_tail : (b c : Book) (d : Call) (ds : List Call) → Near c b (d ∷ ds) →
 near_tail b c d ds (inl e) = inl e
 near_tail b c d ds (inr a) = inr a.1
 
-near_tick : (t : ℕ) (b r c : Book) (ds : List Call) → Every (λ d. t ≤ time_of d) ds → ((r ≡ b) ⊎ (r.clock ≡ t)) → Near c b ds → Near c r ds
+near_tick : (t : ℕ) (b r c : Book) (ds : List Call) → (t ≤ last_moment → Every (λ d. t ≤ time_of d) ds)
+    → ((r ≡ b) ⊎ ((r.clock ≡ t) × (t ≤ last_moment))) → Near c b ds → Near c r ds
 near_tick t b r c ds a (inl e) q = subst (λ v. Near c v ds) (sym e) q
-near_tick t b r c ds a (inr e) q = inr (subst (λ k. Every (λ d. k ≤ time_of d) ds) (sym e) a)
+near_tick t b r c ds a (inr e) q = inr (subst (λ k. Every (λ d. k ≤ time_of d) ds) (sym e.0) (a e.1))
 
 heads : {X : Type 0} {x y : X} {xs ys : List X} → x ≡ y → xs ≡ ys → (x ∷ xs) ≡ (y ∷ ys)
 heads e f = cc

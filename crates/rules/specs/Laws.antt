@@ -7,7 +7,7 @@ use Rattle.terms.specs.Terms.{is_mdo}
 use Rattle.tape.specs.declared.line.Line.{Line}
 use Rattle.rules.specs.declared.refusal.Refusal.{Refusal}
 use Rattle.rules.specs.declared.refusal.Refusal.TheVariants.{TapeShort}
-use Rattle.rules.specs.Limits.{protection_period, most_resting, most_entries, fewest_left}
+use Rattle.rules.specs.Limits.{protection_period, most_resting, most_entries, fewest_left, last_moment}
 use Rattle.rules.specs.Market.{Order, Market, Book, side_of, ranked_in, reach_in}
 use Rattle.rules.specs.Priority.{is_partner, ahead, next_partner}
 use Rattle.rules.specs.Sweep.{side_mark}
@@ -36,13 +36,14 @@ answers_to_shared (cancel t id ∷ cs) (a ∷ zs) = a ∷ answers_to_shared cs z
 answers_to_shared (quote t bid offer ∷ cs) (a ∷ zs) = a ∷ answers_to_shared cs zs
 answers_to_shared (tick t ∷ cs) (a ∷ zs) = answers_to_shared cs zs
 
--- no tick is later than a shared call after it
+-- no tick of the day is later than a shared call after it. A tick past the day's last moment is refused wherever it stands, and
+-- nothing is asked of it
 abbrev pub TicksInTime : List Call → Type 0
 TicksInTime [] = Unit {0}
 TicksInTime (entry t id w ∷ cs) = TicksInTime cs
 TicksInTime (cancel t id ∷ cs) = TicksInTime cs
 TicksInTime (quote t bid offer ∷ cs) = TicksInTime cs
-TicksInTime (tick t ∷ cs) = Every (λ c. t ≤ time_of c) (shared cs) × TicksInTime cs
+TicksInTime (tick t ∷ cs) = (t ≤ last_moment → Every (λ c. t ≤ time_of c) (shared cs)) × TicksInTime cs
 
 -- no call was refused for want of free lines
 abbrev pub TapeNeverShort : List Answer → Type 0

@@ -13,5 +13,6 @@ returns g c =
     let table = c.in_ok-open.ensures in (
       empty_tape (g.T.Tape.lines c.args.tape.now) (ap is_some (sym c.read.ensures) ∙ sym c.is_some.ensures ∙ c.if-is_some.false),
       table.0,
+      table.1,
       table.2,
     )
