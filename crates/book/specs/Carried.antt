@@ -1,12 +1,12 @@
 -- What a call promises: its answer and the book after it are the rule book's, and the book is sound again.
-use Rattle.std.specs.Prelude.{◌≡◌, ℕ, ◌≤◌, true, false, ◌&&◌, length, Ok, Err, vec_items, Result, nat_le}
+use Rattle.std.specs.Prelude.{◌≡◌, ℕ, ◌≤◌, true, false, ◌&&◌, List, [], ◌∷◌, length, Ok, Err, vec_items, Result, nat_le}
 use Rattle.tape.specs.declared.tapes.Tape.{Ghosts as TapeOf}
 use Rattle.directory.specs.declared.directories.Directory.{Ghosts as DirectoryOf}
 use Rattle.rules.specs.declared.refusal.Refusal.{Refusal}
 use Rattle.rules.specs.declared.refusal.Refusal.TheVariants.{Time, TapeShort}
 use Rattle.rules.specs.Limits.{last_moment}
 use Rattle.rules.specs.Market.{Book}
-use Rattle.rules.specs.Answers.{Answer, entered, cancelled, quoted, ticked, refused}
+use Rattle.rules.specs.Answers.{Answer, entered, cancelled, quoted, ticked, refused, refusal_number, Told, told}
 use Rattle.rules.specs.Calls.{Call, Outcome, call, done_at, time_of, names_lawfully}
 use Rattle.orders.specs.Changes.{AllRest}
 use Rattle.market.specs.Markets.{capacity_of, HasRoom}
@@ -17,6 +17,10 @@ use Rattle.book.specs.Books.{book_of, BookTied, Sound}
 -- what the rule book makes of a call, with the lines that are free on the tape
 abbrev pub outcome_of : {D T : Type 0} → TapeOf T → Engine D T → Call → Outcome
 outcome_of t b c = call (t.free b.market.tape) c (book_of t b)
+
+-- the number and the values that the rule book tells of a call
+abbrev pub told_of : {D T : Type 0} → TapeOf T → Engine D T → Call → Told
+told_of t b c = told (outcome_of t b c).answer
 
 pub record Carried {D T : Type 0} (d : DirectoryOf D) (t : TapeOf T) (before after : Engine D T) (c : Call) (a : Answer) : Type 0 where
   pub answer : a ≡ (outcome_of t before c).answer
@@ -76,3 +80,26 @@ quote_answer (Err why) = refused why
 abbrev pub cancel_answer : Result ℕ Refusal → Answer
 cancel_answer (Ok left) = cancelled left
 cancel_answer (Err why) = refused why
+
+-- A result in numbers: 0 and the values of what was done, or the refusal's number and no values.
+
+abbrev pub done_with : List ℕ → Told
+done_with values = record { number = 0; values = values }
+
+abbrev pub refused_with : Refusal → Told
+refused_with why = record { number = refusal_number why; values = [] }
+
+-- entry number, shares traded, shares lapsed
+abbrev pub entry_numbers : Result (ℕ × ℕ × ℕ) Rejected → Told
+entry_numbers (Ok v) = done_with (v.0 ∷ (v.1 ∷ (v.2 ∷ [])))
+entry_numbers (Err e) = refused_with e.why
+
+-- the shares that were left
+abbrev pub cancel_numbers : Result ℕ Refusal → Told
+cancel_numbers (Ok left) = done_with (left ∷ [])
+cancel_numbers (Err why) = refused_with why
+
+-- a quote's and a tick's
+abbrev pub plain_numbers : Result (Unit {0}) Refusal → Told
+plain_numbers (Ok u) = done_with []
+plain_numbers (Err why) = refused_with why

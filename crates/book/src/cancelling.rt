@@ -4,7 +4,7 @@ ghost use Rattle.rules.specs.Market.{resting, without, with_orders};
 ghost use Rattle.rules.specs.Calls.{left_of, cancel as cancel_of};
 ghost use Rattle.market.specs.Markets.{market_of};
 ghost use Rattle.book.specs.Books.{Sound};
-ghost use Rattle.book.specs.Carried.{Carried, Tidied, cancel_answer};
+ghost use Rattle.book.specs.Carried.{Carried, Tidied, cancel_answer, cancel_numbers, told_of};
 
 use crate::engine::Engine;
 use crate::state::Book;
@@ -53,7 +53,8 @@ impl<D: Directory, T: Tape> Engine<D, T> {
 impl<D: Directory, T: Tape> Book<D, T> {
     // The shares that were left of the order that the identifier names.
     pub fn cancel(&mut self, time: u64, id: &[u8]) -> Result<u32, Refusal>
-        ensures { Carried D.Directory T.Tape self.old.engine self.new.engine (cancel_of time id.now) (cancel_answer result) }
+        ensures carried { Carried D.Directory T.Tape self.old.engine self.new.engine (cancel_of time id.now) (cancel_answer result) }
+        ensures told { cancel_numbers result ≡ told_of T.Tape self.old.engine (cancel_of time id.now) }
     {
         self.engine.cancel(time, id)
     }

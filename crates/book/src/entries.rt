@@ -3,7 +3,7 @@ ghost use Rattle.std.specs.Prelude.{◌≡◌, true, IfErr};
 ghost use Rattle.terms.specs.Made.{terms_of};
 ghost use Rattle.rules.specs.Calls.{entry as entry_of};
 ghost use Rattle.book.specs.Books.{Sound};
-ghost use Rattle.book.specs.Carried.{Carried, entry_answer, entry_told};
+ghost use Rattle.book.specs.Carried.{Carried, entry_answer, entry_numbers, entry_told, told_of};
 
 use crate::engine::Engine;
 use crate::entering::kept_identifier;
@@ -53,6 +53,7 @@ impl<D: Directory, T: Tape> Book<D, T> {
         ticket: Ticket,
     ) -> Result<(u32, u32, u32), Rejected>
         ensures carried { Carried D.Directory T.Tape self.old.engine self.new.engine (entry_of time id.now (terms_of ticket.terms)) (entry_told result) }
+        ensures told { entry_numbers result ≡ told_of T.Tape self.old.engine (entry_of time id.now (terms_of ticket.terms)) }
         ensures handed_back { IfErr result (λ e. e.ticket ≡ ticket) }
     {
         let terms = ticket.terms();

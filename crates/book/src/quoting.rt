@@ -2,7 +2,7 @@
 ghost use Rattle.std.specs.Prelude.{◌≡◌};
 ghost use Rattle.rules.specs.Calls.{quote as quote_of};
 ghost use Rattle.book.specs.Books.{Sound};
-ghost use Rattle.book.specs.Carried.{Carried, quote_answer};
+ghost use Rattle.book.specs.Carried.{Carried, plain_numbers, quote_answer, told_of};
 
 use crate::engine::Engine;
 use crate::state::Book;
@@ -24,7 +24,8 @@ impl<D: Directory, T: Tape> Engine<D, T> {
 
 impl<D: Directory, T: Tape> Book<D, T> {
     pub fn quote(&mut self, time: u64, quote: Quote) -> Result<(), Refusal>
-        ensures { Carried D.Directory T.Tape self.old.engine self.new.engine (quote_of time quote.bid quote.offer) (quote_answer result) }
+        ensures carried { Carried D.Directory T.Tape self.old.engine self.new.engine (quote_of time quote.bid quote.offer) (quote_answer result) }
+        ensures told { plain_numbers result ≡ told_of T.Tape self.old.engine (quote_of time quote.bid quote.offer) }
     {
         self.engine.quote(time, quote)
     }

@@ -2,7 +2,7 @@
 ghost use Rattle.std.specs.Prelude.{◌≡◌};
 ghost use Rattle.rules.specs.Calls.{tick as tick_of};
 ghost use Rattle.book.specs.Books.{book_of, Sound};
-ghost use Rattle.book.specs.Carried.{Carried, Begun, time_and_tape, tick_answer};
+ghost use Rattle.book.specs.Carried.{Carried, Begun, plain_numbers, tick_answer, time_and_tape, told_of};
 
 use crate::engine::Engine;
 use crate::state::Book;
@@ -38,7 +38,8 @@ impl<D: Directory, T: Tape> Engine<D, T> {
 
 impl<D: Directory, T: Tape> Book<D, T> {
     pub fn tick(&mut self, time: u64) -> Result<(), Refusal>
-        ensures { Carried D.Directory T.Tape self.old.engine self.new.engine (tick_of time) (tick_answer result) }
+        ensures carried { Carried D.Directory T.Tape self.old.engine self.new.engine (tick_of time) (tick_answer result) }
+        ensures told { plain_numbers result ≡ told_of T.Tape self.old.engine (tick_of time) }
     {
         self.engine.advance(time)
     }
