@@ -1,5 +1,6 @@
--- The law of loads, in words: entries are all made at one time; a ticket or an entry that is refused leaves a slip, and only a fault
--- of a field or of an order stops the load; in a finished one every order of the register is entered or has a slip.
+-- The law of loads, in words: entries are all made at one time; slips are of tickets or entries that were refused; only a
+-- fault of a field or of an order stops the load, or a slip that finds no place; in a finished one every order of the
+-- register is entered or has a slip.
 use Rattle.std.specs.Prelude.{◌≡◌, ℕ, ◌+◌, ◌⊎◌, List, [], ◌∷◌, length, Some, None, Ok, Option}
 use Rattle.std.specs.List.{AllByRecursion as Every}
 use Rattle.register.specs.Layout.{Listed}
@@ -20,7 +21,7 @@ EntryAt time (tick t) = ⊥
 abbrev pub OfOneOrder : Slip → Type 0
 OfOneOrder s = (s.layer ≡ 3) ⊎ (s.layer ≡ 4)
 
--- what stops a load is a fault of a field or of an order
+-- what stops a load is a fault of a field or of an order, and a slip that finds no place is told as one of an order
 abbrev pub Stops : Option LoadFault → Type 0
 Stops None = Unit {0}
 Stops (Some e) = (load_fault_layer e ≡ 1) ⊎ (load_fault_layer e ≡ 2)

@@ -13,7 +13,7 @@ abbrev pub moved : ℕ → ℤ → ℕ
 moved cents (pos k) = cents + k
 moved cents (negsuc k) = cents - suc k
 
--- the near quote moved by the offset, from 2 to 4,000,000 half-cents
+-- the near quote moved by the offset, in half-cents: at least 2 for a buy, at most 4,000,000 for a sell
 abbrev pub peg : Side → ℕ → ℕ → ℤ → ℕ
 peg Buy bid offer offset = max 2 (2 * moved bid offset)
 peg Sell bid offer offset = min 4000000 (2 * moved offer offset)

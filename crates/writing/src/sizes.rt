@@ -6,8 +6,8 @@ ghost use Rattle.writing.specs.RoundTrip.{WritingGivesTheRegisterAgain};
 
 use terms::lawful::Terms;
 
-// The bytes of an order, however many of its shares are left. A register that reads without a fault has no others,
-// but for those of short names.
+// How many bytes an order takes, however many of its shares are left. A register that reads without a fault has no
+// others, but for those of short names.
 pub fn order_size(identifier: &[u8], terms: &Terms) -> usize
     ensures size { (left : ℕ) → result ≡ length (order_bytes (order_of identifier.now (terms_of terms.now) left)) }
     ensures writing_gives_the_register_again { WritingGivesTheRegisterAgain }
