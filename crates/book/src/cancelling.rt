@@ -42,7 +42,7 @@ impl<D: Directory, T: Tape> Engine<D, T> {
             return Err(Refusal::Identifier);
         }
         self.advance(time)?;
-        // The form asked for: a cancel whose identifier names nothing stops here.
+        // Looked up once the clock is at the cancel's time, since the order may have left by then.
         let Some(number) = self.directory.find(id) else {
             return Err(Refusal::NoSuchOrder);
         };
@@ -51,7 +51,7 @@ impl<D: Directory, T: Tape> Engine<D, T> {
 }
 
 impl<D: Directory, T: Tape> Book<D, T> {
-    // The shares that were left of the order that the identifier names.
+    // The shares that were left of the order that the identifier names. Refused as Identifier, Time, TapeShort or NoSuchOrder.
     pub fn cancel(&mut self, time: u64, id: &[u8]) -> Result<u32, Refusal>
         ensures carried { Carried D.Directory T.Tape self.old.engine self.new.engine (cancel_of time id.now) (cancel_answer result) }
         ensures told { cancel_numbers result ≡ told_of T.Tape self.old.engine (cancel_of time id.now) }

@@ -17,7 +17,7 @@ use terms::kinds::TimeInForce;
 use terms::lawful::{Terms, Ticket};
 
 impl<D: Directory, T: Tape> Engine<D, T> {
-    // Entry number, shares traded and shares lapsed of the order that the terms make, in the tuple asked for.
+    // The number of the order that the terms make, how many of its shares traded, and how many lapsed.
     pub(crate) fn enter_terms(
         &mut self,
         time: u64,
@@ -44,8 +44,8 @@ impl<D: Directory, T: Tape> Engine<D, T> {
 }
 
 impl<D: Directory, T: Tape> Book<D, T> {
-    // A ticket is moved in: it is spent, or handed back with the refusal. The tuple is the form asked for: entry number, shares
-    // traded, shares lapsed.
+    // A ticket is moved in: it is spent, or handed back with the refusal, any but NoSuchOrder. Told are the entry number, how
+    // many shares traded, and how many lapsed.
     pub fn enter(
         &mut self,
         time: u64,

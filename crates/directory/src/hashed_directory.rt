@@ -21,8 +21,8 @@ impl HashedDirectory {
         Ok(HashedDirectory { places, held: 0 })
     }
 
-    // Looks from the identifier's home on, round the ring of places. A place is told by its steps from home, as the chains are
-    // (`steps`), which two ranges one after the other would not show.
+    // Looks from the identifier's home on, round the ring of places. Places are counted by their steps from home, as the
+    // chains are (`steps`).
     fn look(&self, id: &[u8]) -> Spot
         ensures { Looked self.now.places.items id.now result }
     {
@@ -58,7 +58,7 @@ impl Directory for HashedDirectory {
         }
     }
 
-    // The tests are the trait's, in its order; what is asked for each is the make's own.
+    // The trait fixes the tests and their order; each make tests in its own way.
     fn put(&mut self, id: &[u8], entry: u32) -> Result<(), PutRefusal> {
         if !lawful_identifier(id) {
             return Err(PutRefusal::Unlawful);

@@ -5,7 +5,7 @@ ghost use Rattle.directory.specs.Table.{home_place as home_place_of, steps, Gapp
 use crate::entries::Entry;
 use crate::table::PLACES;
 
-// The place where a look for an identifier begins. Every byte counts.
+// The place where a look for an identifier begins, from 0 to 127. Every byte counts.
 pub fn home_place(id: &[u8]) -> usize
     ensures value { result ≡ home_place_of id.now }
     ensures within { result < 128 }
@@ -38,7 +38,7 @@ pub(crate) fn close_gap(places: &mut Vec<Option<Entry>>, gap: usize)
     ensures { Closed places.old.items places.new.items }
 {
     let mut hole = gap;
-    // A place is told by its steps on from the gap, which two ranges one after the other would not show.
+    // Places are counted by their steps on from the gap, since the walk goes round the ring.
     for step in 1..PLACES {
         let place = (gap + step) % PLACES;
         let Some(entry) = places[place] else {

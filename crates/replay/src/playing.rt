@@ -13,8 +13,7 @@ use std::alloc::Global;
 use tape::tapes::Tape;
 use terms::lawful::Quote;
 
-// Opens a book and replays the calls on it. It fails for want of memory or at a tape that has lines. Each thing is
-// handed over once: a struct of them would be made only to be taken apart.
+// Opens a book and replays the calls on it. It fails for want of memory or at a tape that has lines.
 pub fn play<D: Directory + Drop, T: Tape + Drop>(
     heap: Global,
     quote: Quote,

@@ -16,7 +16,7 @@ use terms::lawful::Quote;
 
 // Two lists of calls, each on a new book at the quote, with directories and tapes of any makes. The law of whole days holds of
 // whatever comes out: ticks cannot change who trades, the tape explains discretion, and neither book stands crossed.
-// Each thing is handed over once: a struct of them would be made only to be taken apart.
+// It fails for want of memory or at a tape that has lines.
 pub fn rerun<D: Directory + Drop, T: Tape + Drop, E: Directory + Drop, U: Tape + Drop>(
     heap: Global,
     quote: Quote,
