@@ -48,7 +48,7 @@ answer_to (ticket_of d) = outcome (ticket_from d)
 answer_to (may_identify id) = verdict (identifier_refusal id)
 answer_to (register_says bs) = reading (read_next (length bs) bs)
 
--- a hidden buy MDO with QDP, 200 shares, limit 1001
+-- buy, hidden MDO, rest, QDP (codes 1 4 1 1): 200 shares at a limit of 1001 cents
 abbrev pub buy_mdo : ℤ → Draft
 buy_mdo z =
     record { side = 1; kind = 4; time_in_force = 1; qdp = 1; shares = 200; limit = 1001; offset = z }

@@ -33,7 +33,7 @@ four_field tag from put get =
       get = λ o. Some (get o.draft);
     }
 
--- the first 12 bytes, filled up with blanks
+-- cut to 12 bytes, or padded to 12 with blanks
 abbrev pub short_name : List ℕ → List ℕ
 short_name id = take 12 (id ++ replicate 12 32)
 
@@ -143,7 +143,7 @@ ticket_layout = codes_field ∷ (shares_field ∷ (limit_field ∷ (offset_field
 abbrev pub layout : List Field
 layout = identifier_field ∷ (short_name_field ∷ ticket_layout)
 
--- a field in bytes: one tag byte, two length bytes, the value
+-- a field in bytes: its tag, its length in two bytes, its value
 abbrev pub field_bytes : ℕ → List ℕ → List ℕ
 field_bytes tag v = tag ∷ (two_bytes (length v) ++ v)
 

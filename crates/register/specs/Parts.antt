@@ -52,7 +52,7 @@ next_read None left = None
 next_read (Some (Ok o)) left = Some (Ok (record { order = listed_of o; rest = left }))
 next_read (Some (Err e)) left = Some (Err e)
 
--- The place of an order is that of its first byte; its identifier is a part of the register, and stands at its place.
+-- The place of an order is that of its first byte; the identifier's bytes are the register's own, at the place told.
 -- At the end, and after a fault, nothing is left.
 abbrev pub Placed : List ℕ → List ℕ → Option (Result ListedOrder Fault) → List ℕ → Type 0
 Placed register rest None left = left ≡ []

@@ -10,7 +10,7 @@ pub record Taken : Type 0 where
   pub value : List ℕ
   pub rest : List ℕ
 
--- nothing where there are fewer than 3 bytes, or the value passes the end
+-- nothing where tag and both length bytes are not all there, or fewer bytes follow than the length says
 abbrev pub take_field : List ℕ → Option Taken
 take_field [] = None
 take_field (tag ∷ []) = None

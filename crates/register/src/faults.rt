@@ -4,9 +4,9 @@ use terms::kinds::Refusal;
 // Each fault holds its place, counted from 0: of the field's first byte, or of the order's.
 #[derive(Clone, Copy, PartialEq, Eq, Debug, Drop)]
 pub enum Fault {
-    // a field has fewer than 3 bytes, or its value passes the end: the field's place
+    // the register ends before a field does: the place where the field begins
     CutShort(usize),
-    // a wrong tag, length or short name, or an offset of 0: the order's place
+    // a tag, a length or a short name is wrong, or a written offset is 0: the order's place
     Malformed(usize),
     // the order's ticket is refused: the order's place
     Ticket(Refusal, usize),

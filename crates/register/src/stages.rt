@@ -17,7 +17,7 @@ pub(crate) struct Place {
     pub start: usize,
 }
 
-// The identifier's first 12 bytes, filled up with blanks.
+// The identifier cut to 12 bytes, or padded to 12 with blanks.
 fn short_name(identifier: &[u8]) -> [u8; 12]
     ensures { result ≡ short_name_of identifier.now }
 {

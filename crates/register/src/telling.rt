@@ -8,7 +8,7 @@ use crate::listed::Listed;
 use std::fmt;
 use terms::lawful::Ticket;
 
-// What is told of a fault; its layer says how much of a register the reader had made sense of.
+// What is told of a fault: number, layer (1 field, 2 order, 3 ticket, 4 book), place and words.
 #[derive(Clone, Copy, Drop)]
 pub struct Report {
     pub number: u8,
@@ -76,6 +76,7 @@ impl fmt::Display for Fault {
 }
 
 impl Listed<'_> {
+    // A ticket that is refused is a fault of layer 3, at the order's place.
     pub fn ticket(&self) -> Result<Ticket, Fault>
         ensures { ticket_or_fault result ≡ listed_ticket self.now.place self.now.draft }
     {

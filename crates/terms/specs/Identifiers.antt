@@ -1,4 +1,4 @@
--- An identifier is 1 to 20 bytes, each from 33 to 126.
+-- Lawful identifiers: between one and twenty bytes, all of them printable ASCII without the blank (33 to 126).
 use Rattle.std.specs.Prelude.{ℕ, Bool, true, false, ◌&&◌, List, [], ◌∷◌, length, Some, None, Option}
 use Rattle.terms.specs.declared.kinds.Refusal.{Refusal}
 use Rattle.terms.specs.declared.kinds.Refusal.TheVariants as refusal

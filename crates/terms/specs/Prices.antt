@@ -1,5 +1,5 @@
 -- The two prices of an order, in half-cents: the ranked price, at which it stands in the book, and the reach, the
--- price up to which it trades. A midpoint in half-cents is bid plus offer in cents.
+-- price up to which it trades. Bid and offer in cents add up to the midpoint in half-cents.
 use Rattle.std.specs.Prelude.{ℕ, suc, ◌+◌, ◌-◌, ◌*◌, min, max, Bool, true, false, ◌&&◌, ℤ, pos, negsuc}
 use Rattle.terms.specs.declared.kinds.Side.{Side}
 use Rattle.terms.specs.declared.kinds.Side.TheVariants.{Buy, Sell}
@@ -39,7 +39,7 @@ reach_with_discretion DisplayedMdo w bid offer = limit_or_midpoint w bid offer
 reach_with_discretion HiddenMdo w bid offer = limit_or_midpoint w bid offer
 reach_with_discretion MidpointPeg w bid offer = ranked w bid offer
 
--- discretion is off exactly when the order carries QDP and its side's protection period is running
+-- no discretion on an order with QDP, as long as its side's protection period runs; nothing else takes it away
 abbrev pub reach : OrderTerms → Bool → ℕ → ℕ → ℕ
 reach w period_runs bid offer =
     elim (w.qdp && period_runs) [ true ↦ ranked w bid offer | false ↦ reach_with_discretion w.kind w bid offer ]

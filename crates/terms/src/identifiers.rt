@@ -4,6 +4,7 @@ ghost use Rattle.std.specs.List.{list_all};
 ghost use Rattle.terms.specs.Terms.{in_range};
 ghost use Rattle.terms.specs.Identifiers.{lawful_identifier as lawful_identifier_of};
 
+// The most bytes of an identifier, and the lowest and highest value of one.
 pub const LONGEST: usize = 20;
 
 pub const LOWEST: u8 = 33;
@@ -17,7 +18,7 @@ fn printable(id: &[u8]) -> bool
     id.iter().all(|byte| (LOWEST..=HIGHEST).contains(byte))
 }
 
-// An identifier is 1 to 20 bytes, each from 33 to 126.
+// Lawful: between one and twenty bytes, all of them printable ASCII without the blank (33 to 126).
 #[tactic(auto, using(crate::proofs::Printable::printable_is_all))]
 pub fn lawful_identifier(id: &[u8]) -> bool
     ensures { result ≡ lawful_identifier_of id.now }
@@ -37,7 +38,7 @@ pub struct Identifier {
 impl Identifier {
     ghost use Rattle.terms.specs.Naming.{identifier_bytes};
 
-    // None exactly if there are too many bytes; whether they are lawful is not asked here.
+    // None exactly if there are more than 20 bytes; whether they are lawful is left to `lawful_identifier`.
     pub fn new(bytes: &[u8]) -> Option<Identifier>
         ensures { MatchOption result (20 < length bytes.now) (λ i. (length bytes.now ≤ 20) × (identifier_bytes i ≡ bytes.now)) }
     {

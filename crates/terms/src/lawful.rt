@@ -4,7 +4,7 @@ ghost use Rattle.terms.specs.Terms.{go_together, offset_in_range};
 
 use crate::kinds::{Kind, Side, TimeInForce};
 
-// What an order says; limit and offset are whole cents.
+// What an order says: 1 to 1,000,000 shares; limit (1 to 2,000,000) and offset (-100 to 100) in whole cents.
 #[derive(Clone, Copy, Drop)]
 pub struct Terms {
     pub side: Side,

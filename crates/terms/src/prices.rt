@@ -34,7 +34,7 @@ fn limit_or_midpoint(terms: Terms, quote: Quote) -> u32
     tamer(terms.side, 2 * terms.limit, quote.bid + quote.offer)
 }
 
-// Where the order stands in the book.
+// Where the order stands in the book, in half-cents.
 pub fn ranked_price(terms: Terms, quote: Quote) -> u32
     ensures { result ≡ ranked (terms_of terms) quote.bid quote.offer }
 {
@@ -49,7 +49,7 @@ pub fn ranked_price(terms: Terms, quote: Quote) -> u32
     }
 }
 
-// The price up to which the order trades; `period_runs` is whether its side's protection period is running.
+// The price up to which the order trades, in half-cents; `period_runs` tells whether its side is protected now.
 pub fn reach(terms: Terms, period_runs: bool, quote: Quote) -> u32
     ensures { result ≡ reach_of (terms_of terms) period_runs quote.bid quote.offer }
 {

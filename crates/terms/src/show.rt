@@ -52,7 +52,7 @@ impl fmt::Display for Kind {
 }
 
 impl Refusal {
-    // A text that lives on, since the words of faults are made of it.
+    // Static, since the report of a fault keeps these words.
     pub fn words(self) -> &'static str
         ensures { result.now ≡ refusal_words self }
     {

@@ -35,7 +35,7 @@ fn is_aggressive(side: Side, offset: i32) -> bool
     }
 }
 
-// The parts that the rule speaks of, in its order.
+// The parts are those that `go_together` names, in its order.
 fn parts_go_together(
     side: Side,
     kind: Kind,
@@ -53,7 +53,7 @@ fn parts_go_together(
 }
 
 impl Ticket {
-    // Codes are judged first, then shares, limit, offset, and whether the parts go together.
+    // Codes are judged first, then shares, limit, offset, and whether the parts go together; the first fault is the refusal.
     pub fn new(draft: Draft) -> Result<Ticket, Refusal>
         ensures { as_terms result ≡ ticket_from draft }
     {
@@ -108,6 +108,7 @@ impl Ticket {
 }
 
 impl Quote {
+    // In whole cents: the bid at least 1 and below the offer, the offer at most 2,000,000; else Refusal::Quote.
     pub fn new(bid: u32, offer: u32) -> Result<Quote, Refusal>
         ensures { as_prices result ≡ quote_from bid offer }
     {

@@ -22,7 +22,7 @@ answer_to q =
 abbrev pub unwritten : ℕ → Page
 unwritten n = fresh (replicate n 170)
 
--- a hidden buy MDO with QDP, 200 shares, limit 1001
+-- the order A1: the terms of `buy_mdo`, at an offset of z cents
 abbrev pub A1 : ℤ → Listed
 A1 z = record { identifier = codes "A1"; draft = buy_mdo z }
 

@@ -6,7 +6,7 @@ pub struct Fill {
     pub mark: usize,
 }
 
-// A field of the order that begins at this place does not fit.
+// A field does not fit; `place` is where its order would begin, counted from 0.
 #[derive(Clone, Copy, PartialEq, Eq, Debug, Drop)]
 pub struct NoRoom {
     pub place: usize,

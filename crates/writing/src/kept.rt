@@ -22,7 +22,7 @@ pub trait KeepsOrder {
         ensures { result ≡ (listed self.now).draft.shares };
 }
 
-// `left` of the shares that the terms say.
+// An order of which `left` shares remain, of those that its terms say.
 #[derive(Clone, Copy, Drop)]
 pub struct Kept<'a> {
     pub identifier: &'a [u8],
