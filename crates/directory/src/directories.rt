@@ -4,7 +4,7 @@ ghost use Rattle.directory.specs.Pairs.{Added, RefusedPut, Removed, Kept, Emptie
 // How many pairs a directory holds at most.
 pub const CAPACITY: usize = 64;
 
-// Why a pair was not put.
+// Why a pair is not put: an unlawful identifier, one that has a pair, or 64 pairs already. The first that holds is told.
 #[derive(Clone, Copy, PartialEq, Eq, Debug, Drop)]
 pub enum PutRefusal {
     Unlawful,
@@ -23,7 +23,7 @@ pub trait Directory {
     fn find(&self, id: &[u8]) -> Option<u32>
         ensures { result ≡ number self.now id.now };
 
-    // Adds a pair. Refused exactly if the identifier is unlawful or held, or 64 are held, and then nothing changes.
+    // Adds a pair, unless a PutRefusal holds; then the directory stays as it was.
     fn put(&mut self, id: &[u8], entry: u32) -> Result<(), PutRefusal>
         ensures { MatchResult result
             (λ _. Added id.now entry (number self.old) (count self.old) (number self.new) (count self.new))

@@ -3,8 +3,8 @@ ghost use Rattle.directory.specs.Entries.{distinct};
 
 use crate::entries::Entry;
 
-// A directory of rows, one pair each, in the order in which they were put; room for 64 is had at making. Not a
-// map, since no call may allocate.
+// A directory of rows, one pair each, the newest last; room for 64 is had at making. Not a map, since no call may
+// allocate.
 #[derive(Drop)]
 pub struct RowDirectory {
     pub(crate) rows: Vec<Entry>,

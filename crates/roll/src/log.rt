@@ -1,6 +1,6 @@
 ghost use Rattle.std.specs.Prelude.{◌≡◌, ◌+◌, ◌≤◌, [], ◌∷◌, ◌++◌, length, MatchResult, slice_set};
 
-// A roll keeps records in the order in which they came, in a slice that its maker lends it.
+// A roll keeps records, the oldest first, in a slice that its maker lends it.
 #[derive(Drop)]
 pub struct Roll<'a, T> {
     room: &'a mut [T],

@@ -8,7 +8,7 @@ use crate::line::Line;
 #[derive(Clone, Copy, PartialEq, Eq, Debug, Drop)]
 pub struct Full;
 
-// A tape is its lines, oldest first, and a count of free lines. Nothing else of a make matters to its users.
+// All that a user sees of a tape, whatever its make: the lines written, from oldest to newest, and how many more it can take.
 pub trait Tape {
     ghost lines: { Self → List TradeLine };
 
