@@ -6,7 +6,7 @@ use Rattle.terms.specs.Sides.{same_side}
 use Rattle.rules.specs.Market.{Order, Market, Book, side_of, with_end, those}
 use Rattle.rules.specs.Sweep.{sweep_each}
 
--- the period that ends first, by side and end; on a tie the buy side's
+-- the period that ends first, with its side; the buy side's where both end together
 abbrev pub earliest : Option ℕ → Option ℕ → Option (Side × ℕ)
 earliest None None = None
 earliest None (Some e) = Some (Sell, e)
@@ -17,7 +17,7 @@ abbrev pub not_after : ℕ → Option (Side × ℕ) → Option (Side × ℕ)
 not_after t None = None
 not_after t (Some d) = elim (nat_le d.1 t) [ true ↦ Some d | false ↦ None ]
 
--- the running period with the earliest end not after t
+-- the period that ends first, if its end has come by t
 abbrev pub due : ℕ → Market → Option (Side × ℕ)
 due t m = not_after t (earliest m.buy_end m.sell_end)
 

@@ -137,7 +137,7 @@ NeverCrossed =
 
 -- Lines within orders
 
--- after every run, one call more writes at most as many lines as orders rest when it comes
+-- however many orders rest after a run, any one call that follows writes no more lines than that
 abbrev pub LinesWithinOrders : Type 0
 LinesWithinOrders =
     (bid offer room free : ℕ) (calls : List Call) (c : Call)
@@ -194,7 +194,7 @@ NumberedFrom k (quoted ∷ zs) = NumberedFrom k zs
 NumberedFrom k (ticked ∷ zs) = NumberedFrom k zs
 NumberedFrom k (refused why ∷ zs) = NumberedFrom k zs
 
--- in every run, accepted entries are numbered 1, 2 and on
+-- in every run, the accepted entries have the numbers from 1 on, without a gap
 abbrev pub NumberedInTurn : Type 0
 NumberedInTurn = (bid offer room : ℕ) (calls : List Call) → NumberedFrom 1 (run room calls (opened bid offer)).answers
 

@@ -28,7 +28,7 @@ class_number Away = 4
 abbrev pub is_partner : Market → Side → ℕ → Order → Bool
 is_partner m s p x = same_side (side_of x) s && meets s (reach_in m x) p
 
--- the partner's ranked price, or the taker's price where the ranked price falls short of it
+-- what a taker at price p trades at with x: the price at which x ranks, if that meets p, else p
 abbrev pub line_price : Market → ℕ → Order → ℕ
 line_price m p x = cond (meets (side_of x) (ranked_in m x) p) (ranked_in m x) p
 
@@ -44,7 +44,7 @@ abbrev pub goes_first : Side → ℕ → ℕ → ℕ → ℕ → ℕ → ℕ →
 goes_first s price class number price' class' number' =
     outranks s price price' || (price == price' && (nat_lt class class' || (class == class' && nat_lt number number')))
 
--- for a taker at price p, x trades before y; the best line price for the taker is the partners' best of their own side
+-- for a taker at price p, x trades before y; a line price that ranks better on the partners' side is better for the taker
 abbrev pub ahead : Market → Side → ℕ → Order → Order → Bool
 ahead m s p x y =
     goes_first s (line_price m p x) (line_class m p x) x.number (line_price m p y) (line_class m p y) y.number

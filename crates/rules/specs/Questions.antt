@@ -14,7 +14,7 @@ use Rattle.rules.specs.Priority.{class_of, goes_first}
 
 -- The ranked question
 
--- x is ranked before y: by best ranked price, class 1 to 3, entry number
+-- x is ranked before y: by a better ranked price; at the same price by a lower class, and in the same class by a lower number
 abbrev pub ranks_before : Market → Side → Order → Order → Bool
 ranks_before m s x y =
     goes_first s (ranked_in m x) (class_of x.terms.kind) x.number (ranked_in m y) (class_of y.terms.kind) y.number

@@ -26,7 +26,7 @@ spent_but n = record { market = (opened 1000 1001).market; clock = 0; entries = 
 
 abbrev pub told_of_refusals : List Example
 told_of_refusals =
-    -- identifiers of 20 bytes pass, of 21 and of none do not, nor a blank; the clock is where it was
+    -- twenty bytes pass as a name; twenty-one, none, a blank and byte 127 do not; the clock is where it was
     record {
       book = opened 1000 1001;
       room = 64;
@@ -42,7 +42,7 @@ told_of_refusals =
           entered 1 0 0 ∷ refused Identifier ∷ refused Identifier ∷ refused Identifier ∷ refused Identifier ∷ ticked ∷ [];
       tape = [];
     }
-    -- a time before the clock, or past the day; the clock's own time passes; an unlawful identifier is told first
+    -- times that have gone by, and one after the last moment; the clock's own time passes; an unlawful identifier is told first
     ∷ record {
       book = opened 1000 1001;
       room = 64;
@@ -58,7 +58,7 @@ told_of_refusals =
       answers = ticked ∷ refused Time ∷ refused Time ∷ refused Time ∷ refused Identifier ∷ entered 1 0 0 ∷ ticked ∷ [];
       tape = [];
     }
-    -- fewer free lines than resting orders: any call is refused; as many are enough; identifier and time are told first
+    -- one free line and two orders that rest: any call is refused; as many are enough; identifier and time are told first
     ∷ record {
       book = opened 1000 1001;
       room = 1;

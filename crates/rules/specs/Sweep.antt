@@ -31,8 +31,8 @@ best_displayed m s r os = fold (λ so_far o. so_far && not (shows s o && outrank
 unfoldable pub displayed_shares : Market → Side → ℕ → List Order → ℕ
 displayed_shares m s r os = sum_by (λ o. cond (shows s o && ranked_in m o == r) o.left 0) os
 
--- the partner x stood displayed at the best displayed price of its side, and once it is lowered, as `after` has it,
--- less than a round lot is displayed there
+-- x is displayed, nothing displayed on its side ranks better, and in `after`, with x lowered, less than a round lot is
+-- displayed at the price at which x ranks
 unfoldable pub depletes : Market → Order → List Order → Bool
 depletes m x after =
     displayed x.terms.kind
@@ -69,7 +69,7 @@ trade t p o x m =
     recorded (depletes m x (lower x.number (traded o x) m.orders)) t (line_price m p x) o x
     (with_orders (after_trade o x m.orders) m)
 
--- lines while the taker rests and has a partner; the next partner is chosen anew after each line.
+-- line after line, as long as the taker rests and has a partner; each is with the partner that goes first by then.
 -- Each line ends an order, so as many turns as orders are enough
 unfoldable pub lines : ℕ → ℕ → ℕ → Order → Market → Market
 lines zero t p o m = m

@@ -77,7 +77,7 @@ pub fn lines_within_orders(resting: usize, free: usize) -> bool
     resting <= free
 }
 
-// The highest entry number. Accepted entries are numbered 1, 2 and on, and stand in the book in that order.
+// The highest entry number. Accepted entries have the numbers from 1 on, without a gap, and stand in the book in that order.
 pub fn entries_are_numbered() -> u32
     ensures most { result ≡ most_entries }
     ensures counted { EntriesCounted }

@@ -6,7 +6,7 @@ ghost use Rattle.rules.specs.Laws.{BestPartner, OneRanking, OneAnswer};
 
 use terms::kinds::{Kind, Side};
 
-// In the order in which they trade at one price. Away: the order trades away from its ranked price.
+// At one price the lower class trades first. Away: the order trades away from its ranked price.
 #[derive(Clone, Copy, PartialEq, Eq, PartialOrd, Ord, Debug, Drop)]
 pub enum Class {
     Displayed = 1,
@@ -44,6 +44,7 @@ pub struct Keys {
 }
 
 impl Keys {
+    // Whether an order of the side with these keys goes before one with the other keys.
     pub fn goes_first(self, side: Side, other: Keys) -> bool
         ensures { result ≡ goes_first side self.price (class_number self.class) self.number other.price (class_number other.class) other.number }
     {

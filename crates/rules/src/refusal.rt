@@ -3,7 +3,7 @@ ghost use Rattle.std.specs.Prelude.{◌≡◌};
 ghost use Rattle.rules.specs.Answers.{refusal_number, after_clock};
 ghost use Rattle.rules.specs.Laws.{RefusalLeaves};
 
-// In the order in which they are judged.
+// Of these the first that holds is told.
 #[derive(Clone, Copy, PartialEq, Eq, PartialOrd, Ord, Debug, Drop)]
 pub enum Refusal {
     Identifier = 7,
@@ -16,7 +16,7 @@ pub enum Refusal {
 }
 
 impl Refusal {
-    // The number that members and registers know it by.
+    // The number that it is told by, 7 to 13.
     pub fn number(self) -> u8
         ensures { result ≡ refusal_number self }
     {
