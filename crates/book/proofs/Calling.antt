@@ -72,7 +72,7 @@ module _ {D T : Type 0} (d : DirectoryOf D) (t : TapeOf T) where
         room = refl;
       }
 
-  -- a call writes at most as many lines as orders rest
+  -- no call writes more lines than there are orders that rest before it
   lines_few : (b : Engine D T) (c : Call) → Sound d t b → length (outcome_of t b c).book.market.tape ≤ length (t.lines b.market.tape) + length (book_of t b).market.orders
   lines_few b c sound =
       let free = t.free b.market.tape in

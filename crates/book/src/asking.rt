@@ -21,14 +21,14 @@ use tape::line::Line;
 use tape::tapes::Tape;
 
 impl<D: Directory, T: Tape> Book<D, T> {
-    // What stands on a side, told by its code, at a place in rank, from 1.
+    // What stands on a side, told by its code (1 buy, 2 sell), at a place in rank, from 1; None where nothing does.
     pub fn ask(&self, side: u8, place: usize) -> Option<Standing>
         ensures { Answered (book_of T.Tape self.now.engine).market side place (option_map standing_as result) }
     {
         ask(&self.engine.market.table, side, place)
     }
 
-    // Why the resting order that the identifier names reaches as far as it does.
+    // Why the resting order that the identifier names reaches as far as it does; None where it names none.
     pub fn why(&self, id: &[u8]) -> Option<Explanation>
         ensures { MatchOption result
             (named id.now (book_of T.Tape self.now.engine).market.orders ≡ None)

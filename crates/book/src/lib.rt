@@ -1,4 +1,4 @@
-// The book that runs.
+// The book that runs. Times are microseconds since midnight.
 #![tactic(auto)]
 
 pub mod asking;

@@ -23,6 +23,7 @@ impl<D: Directory, T: Tape> Engine<D, T> {
 }
 
 impl<D: Directory, T: Tape> Book<D, T> {
+    // The quote is replaced, and the orders that follow it are swept. Refused as Time or TapeShort.
     pub fn quote(&mut self, time: u64, quote: Quote) -> Result<(), Refusal>
         ensures carried { Carried D.Directory T.Tape self.old.engine self.new.engine (quote_of time quote.bid quote.offer) (quote_answer result) }
         ensures told { plain_numbers result ≡ told_of T.Tape self.old.engine (quote_of time quote.bid quote.offer) }

@@ -21,6 +21,7 @@ impl From<Rejected> for Refusal {
     }
 }
 
+// Why a book is not opened.
 #[derive(Clone, Copy, PartialEq, Eq, Debug, Drop)]
 pub enum OpenRefusal {
     // the tape already has lines

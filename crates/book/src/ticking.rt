@@ -1,4 +1,4 @@
-// A tick only brings the clock to its time.
+// A tick does no more than bring the clock to its time.
 ghost use Rattle.std.specs.Prelude.{◌≡◌};
 ghost use Rattle.rules.specs.Calls.{tick as tick_of};
 ghost use Rattle.book.specs.Books.{book_of, Sound};
@@ -37,6 +37,7 @@ impl<D: Directory, T: Tape> Engine<D, T> {
 }
 
 impl<D: Directory, T: Tape> Book<D, T> {
+    // Refused as Time or TapeShort.
     pub fn tick(&mut self, time: u64) -> Result<(), Refusal>
         ensures carried { Carried D.Directory T.Tape self.old.engine self.new.engine (tick_of time) (tick_answer result) }
         ensures told { plain_numbers result ≡ told_of T.Tape self.old.engine (tick_of time) }

@@ -1,4 +1,4 @@
-// The market: sweeps and protection periods, over the order table and any tape.
+// The market: sweeps and protection periods, over the order table and any tape. Times are microseconds since midnight.
 #![tactic(auto)]
 
 pub mod entering;

@@ -9,7 +9,7 @@ use tape::tapes::Tape;
 use terms::kinds::Side;
 
 impl<T: Tape> Market<T> {
-    // The running period with the earliest end not after the time; on a tie the buy side's.
+    // The period that ends first, if its end has come by the time; the buy side's where both end together.
     pub fn due(&self, time: u64) -> Option<(Side, u64)>
         ensures { result ≡ due_of time (market_of T.Tape self.now) }
     {

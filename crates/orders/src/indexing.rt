@@ -19,6 +19,7 @@ impl Table {
         &self.rows
     }
 
+    // The row at an index, from 0.
     pub fn row_at(&self, index: usize) -> Option<Row>
         ensures { MatchOption result (length self.now.rows.items ≤ index) (λ row. (index < length self.now.rows.items) × (row ≡ slice_index_or self.now.rows.items index row)) }
     {

@@ -1,4 +1,5 @@
-// The order table: the rows of resting orders, and the scans over them.
+// The order table: the rows of resting orders, and the scans over them. Prices of orders and lines are half-cents, times
+// microseconds since midnight.
 #![tactic(auto)]
 
 pub mod displays;

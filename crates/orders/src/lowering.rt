@@ -1,4 +1,4 @@
-// One row lent to lower its shares.
+// The shares left of one row fall.
 ghost use Rattle.std.specs.Prelude.{◌≡◌};
 ghost use Rattle.rules.specs.Market.{with_orders, lower};
 ghost use Rattle.orders.specs.Rows.{orders_in};

@@ -17,12 +17,14 @@ impl Table {
         self.ends.get(side).is_some()
     }
 
+    // The price at which the row's order stands, in half-cents.
     pub fn ranked(&self, row: &Row) -> u32
         ensures { result ≡ ranked_in (seen self.now) (row_order row.now) }
     {
         ranked_price(row.terms, self.quote)
     }
 
+    // The price up to which it trades now, in half-cents.
     pub fn reach(&self, row: &Row) -> u32
         ensures { result ≡ reach_in (seen self.now) (row_order row.now) }
     {

@@ -27,7 +27,7 @@ impl Table {
         row.terms.side == side && meets(side, self.reach(row), price)
     }
 
-    // The row's ranked price, or the taker's where the ranked price falls short of it.
+    // The row's ranked price where it meets the taker's, else the taker's.
     pub(crate) fn line_price(&self, price: u32, row: &Row) -> u32
         ensures { result ≡ line_price_of (seen self.now) price (row_order row.now) }
     {

@@ -26,7 +26,7 @@ pub fn mark_of(side: Side) -> Mark
 }
 
 impl Table {
-    // Lowers the partner of a line, and tells whether the line depletes the best displayed price of its side.
+    // Lowers the partner of a line, and tells whether that depletes its side's best display.
     fn lower_partner(&mut self, partner: &Row, shares: u32) -> bool
         ensures depletes { result ≡ depletes_of (seen self.old) (row_order partner.now) (lower partner.now.number shares (seen self.old).orders) }
         ensures market { Becomes self.old self.new (λ m. with_orders (lower partner.now.number shares m.orders) m) }

@@ -1,5 +1,5 @@
--- The reasons in the order in which they are told, of an order that ranks at `price` where the midpoint is `middle`. Cite
--- no_mdo_told, at_limit_told, at_midpoint_told, without_qdp_told and with_qdp_told.
+-- Reason by reason, what `why` tells of an order that ranks at `price`, where the midpoint is `middle`. Cite no_mdo_told,
+-- at_limit_told, at_midpoint_told, without_qdp_told and with_qdp_told.
 use Rattle.std.proofs.Common.{◌≡◌, ℕ, ◌+◌, ◌*◌, true, false, eqb, List, sym, ◌∙◌}
 use Rattle.std.proofs.lemmas.Bool.{eq-eqb, ne_eqb}
 use Rattle.terms.specs.Terms.{is_mdo}

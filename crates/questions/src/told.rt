@@ -17,7 +17,7 @@ pub enum Why {
     NoMdo,
     AtLimit,
     AtMidpoint,
-    // by the line at that place of the tape, oldest 1, and until that time
+    // by the line at that place of the tape, oldest 1, and until that time, in microseconds since midnight
     Protected { line: usize, until: u64 },
     Discretion,
 }
