@@ -108,7 +108,7 @@ module _ (time room : ℕ) where
     load_of register b =
         load_on (length register) (length register) register (record { calls = []; entered = 0; slips = []; book = b })
 
--- what a load answers: orders entered and slips put, or the fault that stopped it
+-- what a load tells: how many orders it entered and how many slips it put, or the fault that stopped it
 abbrev pub load_answer : Option LoadFault → Load → Result Loaded LoadFault
 load_answer None l = Ok (record { entered = l.entered; slips = length l.slips })
 load_answer (Some e) l = Err e

@@ -1,4 +1,4 @@
--- A book in bytes: its resting orders, lowest entry number first, each with the shares that are left of it.
+-- A book in bytes: the orders that rest in it, by ascending entry number, each with its shares left.
 use Rattle.std.specs.Prelude.{◌≡◌, ℕ, List, map, take, Ok, Result, MatchResult}
 use Rattle.std.specs.List.{AllByRecursion as Every}
 use Rattle.terms.specs.Terms.{ticket_from}

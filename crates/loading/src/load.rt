@@ -12,7 +12,7 @@ use roll::log::Roll;
 use tape::tapes::Tape;
 
 // Enters the orders of a register one by one, all at the time. An order whose ticket or entry is refused leaves a slip, and
-// the load goes on; it stops at any other fault, and where a slip finds no place.
+// the load goes on; it stops at any other fault, and where a slip finds no place. What was entered before stays.
 pub fn load<D: Directory, T: Tape>(
     book: &mut Book<D, T>,
     time: u64,

@@ -8,7 +8,7 @@ use register::telling::Report;
 use rules::refusal::Refusal;
 use std::fmt;
 
-// A text that lives on, since the words of faults are made of it.
+// Static, since the report of a fault keeps these words.
 fn why_refused(why: Refusal) -> &'static str
     ensures { result.now ≡ book_words why }
 {

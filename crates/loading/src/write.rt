@@ -8,7 +8,8 @@ use tape::tapes::Tape;
 use writing::fill::NoRoom;
 use writing::writer::Writer;
 
-// Writes the resting orders, lowest entry number first, with the shares that are left, and tells how many bytes they take.
+// Writes the orders that rest, by ascending entry number and each with its shares left, and tells how many bytes they take;
+// an order that does not fit ends the writing, and those before it stand.
 pub fn write_book<D: Directory, T: Tape>(
     book: &Book<D, T>,
     buffer: &mut [u8],

@@ -23,6 +23,7 @@ pub enum Call {
     },
 }
 
+// `number` is the entry number; `traded` and `lapsed` are shares.
 #[derive(Clone, Copy, PartialEq, Eq, Debug, Drop)]
 pub enum Answer {
     Entered {
