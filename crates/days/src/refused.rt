@@ -1,4 +1,7 @@
 // Why a command is refused: by what it says, or by the book.
+ghost use Rattle.std.specs.Prelude.{◌≡◌};
+ghost use Rattle.days.specs.Refusals.{number_of};
+
 use book::refusals::Rejected;
 use rules::refusal::Refusal;
 use terms::kinds::Refusal as Unlawful;
@@ -10,7 +13,9 @@ pub(crate) enum Refused {
 }
 
 impl Refused {
-    pub(crate) fn number(self) -> u8 {
+    pub(crate) fn number(self) -> u8
+        ensures { result ≡ number_of self }
+    {
         match self {
             Refused::Unlawful(why) => why.number(),
             Refused::Book(why) => why.number(),

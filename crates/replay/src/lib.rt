@@ -7,3 +7,4 @@ pub mod playing;
 pub mod replaying;
 pub mod rerunning;
 pub mod runs;
+mod stage;

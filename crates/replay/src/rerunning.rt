@@ -1,14 +1,13 @@
 // One list of calls against another.
-ghost use Rattle.std.specs.Prelude.{◌≡◌, IfOk, MatchResult};
+ghost use Rattle.std.specs.Prelude.{IfErr, IfOk};
 ghost use Rattle.replay.specs.Law.{Law};
 ghost use Rattle.replay.specs.Told.{calls_of};
 ghost use Rattle.replay.specs.Replayed.{run_of};
-ghost use Rattle.replay.specs.Reran.{PlayedThrough, BecauseEither};
+ghost use Rattle.replay.specs.Reran.{AllHandedBack, PlayedThrough};
 
 use crate::calls::Call;
-use crate::playing::play;
-use crate::runs::Played;
-use book::refusals::OpenRefusal;
+use crate::runs::{NotRerun, Played};
+use crate::stage::Stage;
 use directory::directories::Directory;
 use std::alloc::Global;
 use tape::tapes::Tape;
@@ -16,8 +15,9 @@ use terms::lawful::Quote;
 
 // Two lists of calls, each on a new book at the quote, with directories and tapes of any makes. The law of whole days holds of
 // whatever comes out: ticks cannot change who trades, the tape explains discretion, and neither book stands crossed.
-// It fails for want of memory or at a tape that has lines.
-pub fn rerun<D: Directory + Drop, T: Tape + Drop, E: Directory + Drop, U: Tape + Drop>(
+// It fails for want of memory or at a tape that has lines. All memory is had before either book is opened, so that all four
+// come back as they were.
+pub fn rerun<D: Directory, T: Tape, E: Directory, U: Tape>(
     heap: Global,
     quote: Quote,
     directory: D,
@@ -26,14 +26,36 @@ pub fn rerun<D: Directory + Drop, T: Tape + Drop, E: Directory + Drop, U: Tape +
     other_directory: E,
     other_tape: U,
     other_calls: &[Call],
-) -> Result<(Played<D, T>, Played<E, U>), OpenRefusal>
-    ensures first { MatchResult result (λ p. PlayedThrough quote.bid quote.offer tape calls.now p.0) (λ why. BecauseEither T.Tape tape U.Tape other_tape why) }
+) -> Result<(Played<D, T>, Played<E, U>), NotRerun<D, T, E, U>>
+    ensures first { IfOk result (λ p. PlayedThrough quote.bid quote.offer tape calls.now p.0) }
     ensures second { IfOk result (λ p. PlayedThrough quote.bid quote.offer other_tape other_calls.now p.1) }
-    ensures law { MatchResult result
-        (λ p. Law (calls_of calls.now) (run_of p.0.answers.items p.0.book) (calls_of other_calls.now) (run_of p.1.answers.items p.1.book))
-        (λ _. Unit {0}) }
+    ensures law { IfOk result (λ p. Law (calls_of calls.now) (run_of p.0.answers.items p.0.book) (calls_of other_calls.now) (run_of p.1.answers.items p.1.book)) }
+    ensures handed_back { IfErr result (λ e. AllHandedBack T.Tape U.Tape directory tape other_directory other_tape e) }
 {
-    let first = play(heap, quote, directory, tape, calls)?;
-    let second = play(heap, quote, other_directory, other_tape, other_calls)?;
-    Ok((first, second))
+    let first = match Stage::new(heap, quote, directory, tape, calls) {
+        Ok(stage) => stage,
+        Err(first) => {
+            return Err(NotRerun {
+                directory: first.directory,
+                tape: first.tape,
+                other_directory,
+                other_tape,
+                why: first.why,
+            });
+        }
+    };
+    let second = match Stage::new(heap, quote, other_directory, other_tape, other_calls) {
+        Ok(stage) => stage,
+        Err(second) => {
+            let (directory, tape) = first.book.hand_back();
+            return Err(NotRerun {
+                directory,
+                tape,
+                other_directory: second.directory,
+                other_tape: second.tape,
+                why: second.why,
+            });
+        }
+    };
+    Ok((first.play(calls), second.play(other_calls)))
 }

@@ -1,14 +1,13 @@
 use Rattle.std.proofs.Common.{vec_items, rules}
 use Rattle.replay.proofs.Follows.{followed_none, followed_more}
-use Rattle.replay.proofs.replaying.replay.Goals as goal
+use Rattle.replay.proofs.replaying.answer_each.Goals as goal
 
 pub loop-call-init : goal.loop-call-init
-loop-call-init g c =
-    let made = c.in_ok-answers.ensures in (
-      search rules,
-      search rules,
-      followed_none c.args.book.now (vec_items c.in_ok-answers.answers) made.items,
-    )
+loop-call-init g c = (
+  search rules,
+  search rules,
+  followed_none c.args.book.now (vec_items c.args.answers.now) c.requires.none,
+)
 
 pub loop-call-preserved : goal.loop-call-preserved
 loop-call-preserved g c = (

@@ -1,6 +1,6 @@
 use Rattle.std.proofs.Common.{◌≡◌, ◌≤◌, length, take, vec_items, vec_len, vec_capacity}
 use Rattle.replay.specs.Replayed.{Followed}
-use Rattle.replay.proofs.replaying.replay.Given as goal
+use Rattle.replay.proofs.replaying.answer_each.Given as goal
 
 abbrev pub invariant-loop-call : goal.invariant-loop-call
 invariant-loop-call g l =
