@@ -1,5 +1,5 @@
 use Rattle.std.proofs.Common.{◌≤◌, length}
-use Rattle.filings.proofs.examples.Reader.skip.Given as goal
+use Rattle.published_examples.proofs.reader.Reader.skip.Given as goal
 
 abbrev pub invariant-loop-line : goal.invariant-loop-line
 invariant-loop-line l = length l.self.rest.now ≤ length l.fn.self.rest.now

@@ -1,5 +1,5 @@
 use Rattle.std.proofs.Common.{◌≤◌, length}
-use Rattle.filings.proofs.examples.Reader.all_after.Given as goal
+use Rattle.published_examples.proofs.reader.Reader.all_after.Given as goal
 
 abbrev pub invariant-loop-words : goal.invariant-loop-words
 invariant-loop-words l = length l.self.rest.now ≤ length l.fn.self.rest.now

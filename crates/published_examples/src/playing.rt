@@ -1,7 +1,8 @@
 // The calls of an example on a new book.
-use crate::examples::{Call, Example};
-use anyhow::{Context, anyhow};
-use days::commands::{Command, read_command};
+use crate::call::Call;
+use crate::example::Example;
+use anyhow::{Context, bail};
+use days::commands::{BadLine, Command, read_command};
 use days::desk::Desk;
 use days::telling::Output;
 use directory::directories::Directory;
@@ -15,32 +16,40 @@ use tape::tapes::Tape;
 const LINES: usize = 64;
 
 fn command<'a>(call: &Call<'a>) -> anyhow::Result<Command<'a>> {
+    let number = call.line;
     read_command(call.asked.as_bytes())
-        .ok()
-        .flatten()
-        .context("a call of an example is none")
+        .map_err(|expected| BadLine { number, expected })?
+        .context(format_args!("line {number}: expected a call"))
 }
 
-// What is answered to each call. The last closes the book.
+// What is answered to each call, of which the last closes the book.
 fn answers<D: Directory + Drop, T: Tape + Drop>(
     heap: Global,
     mut desk: Desk<D, T>,
-    calls: &[Call<'_>],
+    example: &Example<'_>,
 ) -> anyhow::Result<Vec<Output>> {
+    let name = example.name;
+    let (last, calls) = example
+        .calls
+        .split_last()
+        .context(format_args!("no call stands in the example '{name}'"))?;
     let mut came = Vec::new(heap);
     for call in calls {
+        let line = call.line;
         let mut out = Output::new(heap);
-        let command = command(call)?;
-        if let Command::Close = command {
-            desk.close(&mut out)?;
-            came.push(out)?;
-            return Ok(came);
-        }
-        desk.answer(&command, &mut out)?
-            .context("only calls and questions stand in an example")?;
+        desk.answer(&command(call)?, &mut out)?.context(format_args!(
+            "line {line}: expected entry, cancel, quote, tick, ask or why"
+        ))?;
         came.push(out)?;
     }
-    Err(anyhow!("an example does not close its book"))
+    let Command::Close = command(last)? else {
+        let line = last.line;
+        bail!("line {line}: expected close");
+    };
+    let mut out = Output::new(heap);
+    desk.close(&mut out)?;
+    came.push(out)?;
+    Ok(came)
 }
 
 pub fn play(heap: Global, example: &Example<'_>) -> anyhow::Result<Vec<Output>> {
@@ -50,5 +59,5 @@ pub fn play(heap: Global, example: &Example<'_>) -> anyhow::Result<Vec<Output>> 
     let desk = Desk::open(heap, example.quote, directory, tape)
         .ok()
         .context("the book is not opened")?;
-    answers(heap, desk, example.calls.as_slice())
+    answers(heap, desk, example)
 }

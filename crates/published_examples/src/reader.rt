@@ -1,47 +1,38 @@
-// Examples, as their file has them.
-ghost use Rattle.std.specs.Prelude.{◌≡◌, ◌∷◌, ◌++◌, ◌<◌, ◌≤◌, length, string_bytes, Decides, IfOk, MatchOption, OnSome};
+// Reads examples, line by line.
+ghost use Rattle.std.specs.Prelude.{◌≡◌, ◌∷◌, ◌++◌, ◌<◌, ◌≤◌, length, IfOk, MatchOption, OnSome};
 
+use crate::call::Call;
+use crate::example::Example;
 use anyhow::{Context, anyhow};
 use std::alloc::{AllocError, Global};
 use terms::lawful::Quote;
 
-// A call on the book, and the lines expected in answer, each with its line feed.
-#[derive(Drop)]
-pub struct Call<'a> {
-    pub asked: &'a str,
-    pub expected: String,
-}
-
-impl Call<'_> {
-    pub fn answered_by(&self, came: &str) -> bool
-        ensures { Decides result (came.now ≡ string_bytes self.now.expected) }
-    {
-        came == self.expected.as_str()
-    }
-}
-
-// An example, run once for each filing that tells it.
-#[derive(Drop)]
-pub struct Example<'a> {
-    pub name: &'a str,
-    pub told_in: Vec<&'a str>,
-    pub says: Vec<&'a str>,
-    pub differs: Vec<&'a str>,
-    pub quote: Quote,
-    pub calls: Vec<Call<'a>>,
-}
-
-// What is left of the file. Each line ends with a line feed.
+// What is left of the file, and the number of its next line. Each line ends with a line feed.
 #[derive(Clone, Copy, Drop)]
 pub struct Reader<'a> {
     rest: &'a str,
+    line: u64,
+}
+
+// A bid and an offer in cents, where they are lawful.
+fn quote(words: &str) -> Option<Quote> {
+    let (bid, offer) = words.split_once(' ')?;
+    Quote::new(bid.parse::<u32>().ok()?, offer.parse::<u32>().ok()?).ok()
 }
 
 impl<'a> Reader<'a> {
     pub fn new(text: &'a str) -> Reader<'a>
         ensures { result.rest.now ≡ text.now }
     {
-        Reader { rest: text }
+        Reader {
+            rest: text,
+            line: 1,
+        }
+    }
+
+    fn expected(&self, form: &str) -> anyhow::Error {
+        let line = self.line;
+        anyhow!("line {line}: expected {form}")
     }
 
     // What follows the mark on the next line. Where the line has another mark it is left.
@@ -55,6 +46,7 @@ impl<'a> Reader<'a> {
         let (line, rest) = text.split_once('\n')?;
         let words = line.strip_prefix(mark)?;
         self.rest = rest;
+        self.line = self.line.saturating_add(1);
         Some(words)
     }
 
@@ -72,28 +64,30 @@ impl<'a> Reader<'a> {
     fn quote(&mut self) -> anyhow::Result<Quote>
         ensures { length self.new.rest.now ≤ length self.old.rest.now }
     {
-        let words = self.after("book ").context("an example has no book")?;
-        let (bid, offer) = words
-            .split_once(' ')
-            .context("a book has a bid and an offer")?;
-        Quote::new(bid.parse::<u32>()?, offer.parse::<u32>()?)
-            .ok()
-            .context("a quote is not lawful")
+        let line = self.line;
+        self.after("book ").and_then(quote).context(format_args!(
+            "line {line}: expected book BID OFFER, a lawful quote"
+        ))
     }
 
     fn call(&mut self, heap: Global) -> Result<Option<Call<'a>>, AllocError>
         ensures left { length self.new.rest.now ≤ length self.old.rest.now }
         ensures shorter { IfOk result (λ o. OnSome o (length self.new.rest.now < length self.old.rest.now)) }
     {
+        let line = self.line;
         let Some(asked) = self.after("> ") else {
             return Ok(None);
         };
         let mut expected = String::new(heap);
-        while let Some(line) = self.after("< ") {
-            expected.push_str(line)?;
+        while let Some(answer) = self.after("< ") {
+            expected.push_str(answer)?;
             expected.push('\n')?;
         }
-        Ok(Some(Call { asked, expected }))
+        Ok(Some(Call {
+            line,
+            asked,
+            expected,
+        }))
     }
 
     fn calls(&mut self, heap: Global) -> Result<Vec<Call<'a>>, AllocError>
@@ -115,6 +109,7 @@ impl<'a> Reader<'a> {
                 break;
             }
             self.rest = rest;
+            self.line = self.line.saturating_add(1);
         }
     }
 
@@ -126,18 +121,18 @@ impl<'a> Reader<'a> {
         if self.rest.is_empty() {
             return Ok(None);
         }
-        let name = self.after("example ").context("an example has no name")?;
-        let told_in = self.all_after(heap, "in ")?;
-        if told_in.is_empty() {
-            return Err(anyhow!("an example is told in no filing"));
-        }
+        let Some(name) = self.after("example ") else {
+            return Err(self.expected("example NAME"));
+        };
         let says = self.all_after(heap, "says ")?;
+        if says.is_empty() {
+            return Err(self.expected("says and what is published"));
+        }
         let differs = self.all_after(heap, "differs ")?;
         let quote = self.quote()?;
         let calls = self.calls(heap)?;
         Ok(Some(Example {
             name,
-            told_in,
             says,
             differs,
             quote,

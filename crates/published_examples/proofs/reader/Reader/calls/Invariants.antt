@@ -1,5 +1,5 @@
 use Rattle.std.proofs.Common.{◌≤◌, length}
-use Rattle.filings.proofs.examples.Reader.calls.Given as goal
+use Rattle.published_examples.proofs.reader.Reader.calls.Given as goal
 
 abbrev pub invariant-loop-calls : goal.invariant-loop-calls
 invariant-loop-calls l = length l.self.rest.now ≤ length l.fn.self.rest.now

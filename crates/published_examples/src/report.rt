@@ -1,5 +1,7 @@
-// What is printed of an example: what the filing says, and of each call what was expected and what came.
-use crate::examples::{Call, Example};
+// What is printed of an example: what is published, what our rules give in its place, and of each call what was expected and
+// what came.
+use crate::call::Call;
+use crate::example::Example;
 use days::telling::Output;
 use std::io;
 
@@ -35,15 +37,10 @@ fn call(rt: &HostRuntime, call: &Call<'_>, came: &str) -> io::Result<bool> {
 }
 
 // True where all that came was expected, and nothing else.
-pub fn example(
-    rt: &HostRuntime,
-    example: &Example<'_>,
-    told_in: &str,
-    came: &[Output],
-) -> anyhow::Result<bool> {
+pub fn example(rt: &HostRuntime, example: &Example<'_>, came: &[Output]) -> anyhow::Result<bool> {
     let name = example.name;
-    println!(rt; "\n{name}, in {told_in}")?;
-    words(rt, "the filing", example.says.as_slice())?;
+    println!(rt; "\n{name}")?;
+    words(rt, "published", example.says.as_slice())?;
     words(rt, "our rules", example.differs.as_slice())?;
     let mut agrees = example.calls.len() == came.len();
     for (asked, answer) in example.calls.iter().zip(came) {
