@@ -4,4 +4,5 @@ pub mod Entering
 pub mod Explaining
 pub mod Once
 pub mod Opening
+pub mod Preparing
 pub mod Tied

@@ -1,14 +1,11 @@
 -- A new book, and why there is none.
 use Rattle.std.specs.Prelude.{◌≡◌, ℕ, []}
 use Rattle.tape.specs.declared.tapes.Tape.{Ghosts as TapeOf}
-use Rattle.directory.specs.declared.directories.Directory.{Ghosts as DirectoryOf}
-use Rattle.terms.specs.declared.lawful.Quote.{Quote}
 use Rattle.rules.specs.Runs.{opened}
 use Rattle.book.specs.declared.engine.Engine.{Engine}
 use Rattle.book.specs.declared.refusals.OpenRefusal.{OpenRefusal}
 use Rattle.book.specs.declared.refusals.OpenRefusal.TheVariants.{TapeUsed, NoMemory}
 use Rattle.book.specs.declared.refusals.NotOpened.{NotOpened}
-use Rattle.book.specs.declared.prepared.Prepared.{Prepared}
 use Rattle.book.specs.Books.{book_of}
 
 -- a book on an empty tape, as the rule book opens it
@@ -25,9 +22,3 @@ pub record HandedBack {D T : Type 0} (t : TapeOf T) (directory : D) (tape : T) (
   pub same_directory : e.directory ≡ directory
   pub same_tape : e.tape ≡ tape
   pub why : Because t tape e.why
-
--- a book can be opened at the quote, on this directory and this tape, which are as they were
-pub record PreparedOn {D T : Type 0} {d : DirectoryOf D} {t : TapeOf T} (q : Quote) (directory : D) (tape : T) (p : Prepared D T d t) : Type 0 where
-  pub same_directory : p.directory ≡ directory
-  pub same_tape : p.tape ≡ tape
-  pub at_quote : p.table.quote ≡ q

@@ -2,7 +2,8 @@
 ghost use Rattle.std.specs.Prelude.{◌≡◌, [], MatchResult};
 ghost use Rattle.rules.specs.Runs.{opened};
 ghost use Rattle.orders.specs.Seen.{seen};
-ghost use Rattle.book.specs.Opening.{New, Because, HandedBack, PreparedOn};
+ghost use Rattle.book.specs.Opening.{New, Because, HandedBack};
+ghost use Rattle.book.specs.Preparing.{PreparedOn};
 
 use crate::engine::Engine;
 use crate::prepared::Prepared;

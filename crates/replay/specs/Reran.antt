@@ -6,7 +6,7 @@ use Rattle.terms.specs.declared.lawful.Quote.{Quote}
 use Rattle.rules.specs.Runs.{opened, run}
 use Rattle.book.specs.declared.refusals.OpenRefusal.{OpenRefusal}
 use Rattle.book.specs.declared.refusals.OpenRefusal.TheVariants.{TapeUsed, NoMemory}
-use Rattle.book.specs.Opening.{PreparedOn}
+use Rattle.book.specs.Preparing.{PreparedOn}
 use Rattle.replay.specs.declared.calls.Call.{Call}
 use Rattle.replay.specs.declared.runs.Played.{Played}
 use Rattle.replay.specs.declared.runs.NotRerun.{NotRerun}
