@@ -1,5 +1,5 @@
 // The lines of standard input, with their numbers.
-use anyhow::anyhow;
+use anyhow::Context;
 use days::commands::{BadLine, Command, Expected, read_command};
 use std::io;
 use std::io::{BufRead, BufReader, Stdin};
@@ -15,7 +15,7 @@ pub struct Input {
 #[derive(Clone, Copy, Drop)]
 pub struct InputLine<'a> {
     text: &'a [u8],
-    number: u64,
+    pub number: u64,
 }
 
 impl Input {
@@ -28,10 +28,13 @@ impl Input {
     }
 
     // Reads the next line; None at the end.
-    pub fn next_line(&mut self) -> io::Result<Option<InputLine<'_>>> {
+    pub fn next_line(&mut self) -> anyhow::Result<Option<InputLine<'_>>> {
         self.text.clear();
         self.number = self.number.saturating_add(1);
-        let count = self.reader.read_until(b'\n', &mut self.text)?;
+        let count = self
+            .reader
+            .read_until(b'\n', &mut self.text)
+            .context("cannot read standard input")?;
         if count == 0 {
             return Ok(None);
         }
@@ -56,10 +59,5 @@ impl<'a> InputLine<'a> {
     pub fn bad(self, expected: Expected) -> BadLine {
         let number = self.number;
         BadLine { number, expected }
-    }
-
-    pub fn failed(self, what: &str, file: &str) -> anyhow::Error {
-        let number = self.number;
-        anyhow!("line {number}: cannot {what} {file}")
     }
 }

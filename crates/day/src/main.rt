@@ -1,27 +1,30 @@
 // Answers a day file from standard input, line by line.
 #![tactic(auto)]
 
+mod failure;
+mod files;
 mod input;
 mod options;
 mod registers;
+mod request;
 mod serving;
 mod tapes;
 
+use crate::failure::Failure;
 use crate::input::Input;
 use crate::options::Options;
+use crate::request::{HELP, Request};
 use crate::tapes::serve_on;
+use days::VERSION;
 use days::commands::{Command, Expected};
 use std::process::ExitCode;
 use std::{env, io};
 use terms::lawful::Quote;
 
 // The first command must open the book.
-fn run(rt: &HostRuntime) -> anyhow::Result<()> {
-    let args: Vec<String> = env::args(rt)?.skip(1).collect(rt.alloc())?;
-    let options = Options::read(args.as_slice())?;
+fn answer(rt: &HostRuntime, options: Options) -> anyhow::Result<()> {
     let mut input = Input::new(rt)?;
-    // The reader is handed on, so that no `for` can own it, and no measure falls where input is waited for, so that `while let`
-    // cannot be shown to end: the lines are counted.
+    // Nothing grows smaller while input is waited for: the lines are counted, so that the loop ends.
     for _ in 0..u64::MAX {
         let Some(line) = input.next_line()? else {
             break;
@@ -38,13 +41,30 @@ fn run(rt: &HostRuntime) -> anyhow::Result<()> {
     Ok(())
 }
 
-// As in the other programs that print their own faults: they share no library of ours that prints.
-fn main(rt: HostRuntime) -> io::Result<ExitCode> {
+fn arguments(rt: &HostRuntime) -> io::Result<Vec<String>> {
+    Ok(env::args(rt)?.skip(1).collect(rt.alloc())?)
+}
+
+fn serve(rt: &HostRuntime, request: Request) -> anyhow::Result<()> {
+    match request {
+        Request::Help => Ok(rt.println(HELP)?),
+        Request::Version => Ok(println!(rt; "day (Foszkelad) {VERSION}")?),
+        Request::Answer(options) => answer(rt, options),
+    }
+}
+
+fn run(rt: &HostRuntime) -> Result<(), Failure> {
+    let args = arguments(rt).map_err(|e| Failure::Ended(e.into()))?;
+    let request = Request::read(args.as_slice()).map_err(Failure::Usage)?;
+    serve(rt, request).map_err(Failure::Ended)
+}
+
+fn main(rt: HostRuntime) -> ExitCode {
     match run(&rt) {
-        Ok(()) => Ok(ExitCode::SUCCESS),
-        Err(e) => {
-            eprintln!(rt; "day: {e}")?;
-            Ok(ExitCode::FAILURE)
+        Ok(()) => ExitCode::SUCCESS,
+        Err(failure) => {
+            let _ = eprintln!(rt; "day: {failure}");
+            failure.status()
         }
     }
 }

@@ -21,8 +21,7 @@ fn print(rt: &HostRuntime, out: &mut Output) -> io::Result<()> {
     Ok(())
 }
 
-// Breaks where the book is to be closed. Each function takes the parts that it uses, since writing only looks at the desk and the
-// others change it.
+// Breaks where the book is to be closed.
 fn serve_line<D: Directory, T: Tape>(
     rt: &HostRuntime,
     line: InputLine<'_>,
@@ -51,8 +50,7 @@ fn serve_lines<D: Directory, T: Tape>(
     desk: &mut Desk<D, T>,
     out: &mut Output,
 ) -> anyhow::Result<ControlFlow<()>> {
-    // The reader is asked between lines whether more has come, so that no `for` can own it, and no measure falls where input is
-    // waited for, so that `while let` cannot be shown to end: the lines are counted.
+    // Nothing grows smaller while input is waited for: the lines are counted, so that the loop ends.
     for _ in 0..u64::MAX {
         if out.len() >= GATHERED || input.may_wait() {
             print(rt, out)?;

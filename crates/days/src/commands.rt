@@ -39,10 +39,10 @@ pub enum Command<'a> {
     },
     Load {
         time: u64,
-        file: &'a [u8],
+        file: &'a str,
     },
     Write {
-        file: &'a [u8],
+        file: &'a str,
     },
     Close,
 }
@@ -161,9 +161,14 @@ impl<'a> Words<'a> {
         Some(Command::Book { bid, offer, lines })
     }
 
+    // A name that is no text is no name of a file.
+    fn file(&mut self) -> Option<&'a str> {
+        std::str::from_utf8(self.next()?).ok()
+    }
+
     fn load(&mut self) -> Option<Command<'a>> {
         let time = as_u64(self.number()?);
-        let file = self.next()?;
+        let file = self.file()?;
         Some(Command::Load { time, file })
     }
 
@@ -184,7 +189,7 @@ impl<'a> Words<'a> {
     }
 
     fn write(&mut self) -> Option<Command<'a>> {
-        let file = self.next()?;
+        let file = self.file()?;
         Some(Command::Write { file })
     }
 

@@ -50,8 +50,8 @@ impl<D: Directory, T: Tape> Desk<D, T> {
         Ok([])
     }
 
-    // Answers a command that asks for the book alone, with the trades that it made. None for any other, for which programs that play
-    // examples have errors of their own; the day answers the others itself.
+    // Answers a command that asks for the book alone, with the trades that it made. None for any other, which programs treat each in
+    // its own way.
     pub fn answer(
         &mut self,
         command: &Command,

@@ -8,3 +8,6 @@ mod refused;
 pub mod registers;
 pub mod telling;
 mod words;
+
+// Of the programs that answer days.
+pub const VERSION: &str = "1.0";

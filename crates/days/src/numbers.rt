@@ -23,7 +23,6 @@ fn size_in(digits: &[u8]) -> Option<u64>
     if digits.is_empty() {
         return None;
     }
-    // try_fold was tried: what it gives stayed open.
     let mut size = 0;
     for byte in digits {
         size = with_digit(size, *byte)?;

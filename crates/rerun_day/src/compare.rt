@@ -1,6 +1,6 @@
 // Two runs held against each other.
 use crate::lists::is_tick;
-use crate::verdict::{Alike, Difference, Verdict};
+use crate::verdict::{Alike, Difference, Finding, Silence, Verdict};
 use book::state::Book;
 use directory::directories::Directory;
 use replay::calls::{Answer, Call};
@@ -75,23 +75,37 @@ fn ends<D: Directory, T: Tape, E: Directory, U: Tape>(
         .collect(heap)
 }
 
-// A tape that was too short for a call counts first, for the law does not speak of that day.
 fn held<D: Directory, T: Tape, E: Directory, U: Tape>(
     first: &Played<D, T>,
     second: &Played<E, U>,
     answers: &[Answer],
     others: &[Answer],
 ) -> Result<Alike, Difference> {
-    let short = Answer::Refused(Refusal::TapeShort);
-    if first.answers.contains(&short) || second.answers.contains(&short) {
-        return Err(Difference::ShortTape);
-    }
     let calls = answered_alike(answers, others)?;
     let trades = traded_alike(&first.book, &second.book)?;
     if stand_differently(&first.book, &second.book) {
         return Err(Difference::Books);
     }
     Ok(Alike { calls, trades })
+}
+
+fn tape_short<D: Directory, T: Tape>(run: &Played<D, T>) -> bool {
+    run.answers.contains(&Answer::Refused(Refusal::TapeShort))
+}
+
+impl Finding {
+    // A tape that was too short for a call counts first, for the law does not speak of that day.
+    fn of<D: Directory, T: Tape, E: Directory, U: Tape>(
+        first: &Played<D, T>,
+        second: &Played<E, U>,
+        answers: &[Answer],
+        others: &[Answer],
+    ) -> Finding {
+        if tape_short(first) || tape_short(second) {
+            return Finding::Silent(Silence::ShortTape);
+        }
+        held(first, second, answers, others).into()
+    }
 }
 
 impl Verdict {
@@ -106,7 +120,7 @@ impl Verdict {
         let others = shared_answers(heap, other_calls, second.answers.as_slice())?;
         Ok(Verdict {
             ends: ends(heap, &first.book, &second.book)?,
-            held: held(first, second, answers.as_slice(), others.as_slice()),
+            finding: Finding::of(first, second, answers.as_slice(), others.as_slice()),
         })
     }
 }

@@ -31,19 +31,19 @@ fn entry(
     Ok(calls.push(Call::Entry { time, id, ticket })?)
 }
 
-fn entries(rt: &HostRuntime, time: u64, file: &[u8], calls: &mut Vec<Call>) -> anyhow::Result<()> {
-    // as in the day program; a library for one expression would be longer than it
-    let path = std::str::from_utf8(file).context("a file's name is not text")?;
-    let register = fs::read(rt, path).context(format_args!("cannot read {path}"))?;
-    for order in Reader::new(register.as_slice()).filter_map(|order| order.ok()) {
-        let id = order.identifier.bytes;
-        entry(rt.alloc(), time, id, order.draft, calls)?;
+fn entries(
+    heap: Global,
+    time: u64,
+    register: &[u8],
+    calls: &mut Vec<Call>,
+) -> Result<(), AllocError> {
+    for order in Reader::new(register).filter_map(|order| order.ok()) {
+        entry(heap, time, order.identifier.bytes, order.draft, calls)?;
     }
     Ok(())
 }
 
-fn add(rt: &HostRuntime, command: &Command, calls: &mut Vec<Call>) -> anyhow::Result<()> {
-    let heap = rt.alloc();
+fn add(heap: Global, command: &Command, calls: &mut Vec<Call>) -> Result<(), AllocError> {
     match command {
         Command::Entry { time, id, draft } => entry(heap, *time, id, *draft, calls)?,
         Command::Cancel { time, id } => calls.push(Call::Cancel {
@@ -56,7 +56,6 @@ fn add(rt: &HostRuntime, command: &Command, calls: &mut Vec<Call>) -> anyhow::Re
             }
         }
         Command::Tick { time } => calls.push(Call::Tick { time: *time })?,
-        Command::Load { time, file } => entries(rt, *time, file, calls)?,
         _ => {}
     }
     Ok(())
@@ -64,6 +63,7 @@ fn add(rt: &HostRuntime, command: &Command, calls: &mut Vec<Call>) -> anyhow::Re
 
 // The lines up to the close or the end. None where the quote of the first command is not lawful, so that there is no book.
 pub fn read_day(rt: &HostRuntime, text: &[u8]) -> anyhow::Result<Option<Day>> {
+    let heap = rt.alloc();
     let mut day = None;
     for (number, line) in (1u64..).zip(text.split(|byte| *byte == b'\n')) {
         let command = read_command(line).map_err(|expected| BadLine { number, expected })?;
@@ -73,7 +73,7 @@ pub fn read_day(rt: &HostRuntime, text: &[u8]) -> anyhow::Result<Option<Day>> {
                 let Ok(quote) = Quote::new(bid, offer) else {
                     return Ok(None);
                 };
-                let calls = Vec::new(rt.alloc());
+                let calls = Vec::new(heap);
                 day = Some(Day {
                     quote,
                     lines,
@@ -85,7 +85,13 @@ pub fn read_day(rt: &HostRuntime, text: &[u8]) -> anyhow::Result<Option<Day>> {
                 let expected = Expected::Book;
                 return Err(BadLine { number, expected }.into());
             }
-            (Some(command), Some(day)) => add(rt, &command, &mut day.calls)?,
+            (Some(Command::Load { time, file }), Some(day)) => {
+                let register = fs::read(rt, file).context(format_args!(
+                    "line {number}: cannot read {file}"
+                ))?;
+                entries(heap, time, register.as_slice(), &mut day.calls)?;
+            }
+            (Some(command), Some(day)) => add(heap, &command, &mut day.calls)?,
         }
     }
     Ok(day)

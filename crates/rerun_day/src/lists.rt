@@ -16,6 +16,10 @@ pub fn is_tick(call: &Call) -> bool {
     matches!(call, Call::Tick { .. })
 }
 
+fn is_tick_of_day(call: &Call) -> bool {
+    is_tick(call) && time_of(call) <= LAST_MOMENT
+}
+
 // The same call once more. A ticket is never copied, so that a call has no Clone.
 fn again(heap: Global, call: &Call) -> Result<Call, AllocError> {
     Ok(match call {
@@ -89,10 +93,11 @@ pub fn with_ticks(
     Ok(list)
 }
 
-// The premise of the law that depends on the calls alone: the first tick that is later than a shared call after it.
+// The premise of the law that depends on the calls alone: the first tick that is later than a shared call after it. A tick past
+// the day's last moment is refused and changes nothing, so that it may stand anywhere.
 pub fn tick_too_late(heap: Global, calls: &[Call]) -> Result<Option<u64>, AllocError> {
     let to_come = earliest_to_come(heap, calls)?;
-    let late = calls.iter().zip(to_come.iter()).find(|(call, earliest)| is_tick(call)
+    let late = calls.iter().zip(to_come.iter()).find(|(call, earliest)| is_tick_of_day(call)
         && time_of(call) > **earliest);
     Ok(late.map(|(tick, _)| time_of(tick)))
 }

@@ -4,60 +4,74 @@
 
 mod compare;
 mod day;
+mod ending;
 mod lists;
 mod makes;
+mod request;
 mod verdict;
 
-use crate::day::read_day;
+use crate::day::{Day, read_day};
+use crate::ending::Ending;
 use crate::lists::{latest, tick_too_late, with_ticks};
 use crate::makes::on_makes;
-use crate::verdict::Verdict;
+use crate::request::{HELP, Request};
+use crate::verdict::Silence;
+use anyhow::Context;
+use days::VERSION;
 use replay::calls::Call;
-use std::io;
+use std::env;
 use std::io::Read;
 use std::process::ExitCode;
 
-fn tell(rt: &HostRuntime, name: &str, verdict: &Verdict) -> io::Result<()> {
-    match &verdict.held {
-        Ok(alike) => println!(rt; "{name}: {alike}"),
-        Err(difference) => println!(rt; "{name}: {difference}"),
-    }
-}
-
-fn run(rt: &HostRuntime) -> anyhow::Result<()> {
+fn rerun(rt: &HostRuntime, mut day: Day) -> anyhow::Result<Ending> {
     let heap = rt.alloc();
-    let mut text = Vec::new(heap);
-    rt.stdin().read_to_end(&mut text)?;
-    let Some(mut day) = read_day(rt, text.as_slice())? else {
-        println!(rt; "no book is opened")?;
-        return Ok(());
-    };
-    if let Some(time) = tick_too_late(heap, day.calls.as_slice())? {
-        println!(rt;
-            "the tick at {time} is later than a call after it, so that the law does not speak of this day"
-        )?;
-        return Ok(());
-    }
     let last = latest(day.calls.as_slice());
     day.calls.push(Call::Tick { time: last })?;
     let quiet = with_ticks(heap, day.calls.as_slice(), &[], last)?;
-    let verdict = on_makes(heap, &day, quiet.as_slice())?;
-    tell(rt, "without ticks", &verdict)?;
-    let ticked = with_ticks(heap, day.calls.as_slice(), verdict.ends.as_slice(), last)?;
-    let ends = verdict.ends.len();
-    println!(rt; "protection periods that began: {ends}")?;
-    let verdict = on_makes(heap, &day, ticked.as_slice())?;
-    tell(rt, "with ticks at their ends", &verdict)?;
-    Ok(())
+    let on_quiet = on_makes(heap, &day, quiet.as_slice())?;
+    println!(rt; "without ticks: {}", on_quiet.finding)?;
+    let ends = on_quiet.ends.as_slice();
+    println!(rt; "protection periods that began: {}", ends.len())?;
+    let ticked = with_ticks(heap, day.calls.as_slice(), ends, last)?;
+    let on_ticked = on_makes(heap, &day, ticked.as_slice())?;
+    println!(rt; "with ticks at their ends: {}", on_ticked.finding)?;
+    Ok(Ending::from(on_quiet.finding).max(Ending::from(on_ticked.finding)))
 }
 
-// As in the other programs that print their own faults: they share no library of ours that prints.
-fn main(rt: HostRuntime) -> io::Result<ExitCode> {
-    match run(&rt) {
-        Ok(()) => Ok(ExitCode::SUCCESS),
-        Err(e) => {
-            eprintln!(rt; "rerun_day: {e}")?;
-            Ok(ExitCode::FAILURE)
-        }
+fn read_and_rerun(rt: &HostRuntime) -> anyhow::Result<Ending> {
+    let heap = rt.alloc();
+    let mut text = Vec::new(heap);
+    rt.stdin()
+        .read_to_end(&mut text)
+        .context("cannot read standard input")?;
+    let Some(day) = read_day(rt, text.as_slice())? else {
+        println!(rt; "no book is opened")?;
+        return Ok(Ending::Fine);
+    };
+    if let Some(time) = tick_too_late(heap, day.calls.as_slice())? {
+        println!(rt; "{}", Silence::LateTick(time))?;
+        return Ok(Ending::Silent);
     }
+    rerun(rt, day)
+}
+
+fn run(rt: &HostRuntime) -> anyhow::Result<Ending> {
+    let args: Vec<String> = env::args(rt)?.skip(1).collect(rt.alloc())?;
+    match Request::read(args.as_slice())? {
+        Request::Help => rt.println(HELP)?,
+        Request::Version => println!(rt; "rerun_day (Foszkelad) {VERSION}")?,
+        Request::Rerun => return read_and_rerun(rt),
+    }
+    Ok(Ending::Fine)
+}
+
+fn main(rt: HostRuntime) -> ExitCode {
+    let ending = match run(&rt) {
+        Ok(ending) => ending,
+        Err(e) => {
+            let _ = eprintln!(rt; "rerun_day: {e:#}");
+            Ending::Failed
+        }
+    };
+    ExitCode::from(ending)
 }

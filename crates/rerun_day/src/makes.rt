@@ -12,7 +12,7 @@ use tape::layout::LINE_BYTES;
 use tape::line::Line;
 use tape::records::RecordTape;
 
-// Rooms are had where the tapes that borrow them are made.
+// The rooms stand here, where the tapes that borrow them are made.
 pub fn on_makes(heap: Global, day: &Day, other_calls: &[Call]) -> anyhow::Result<Verdict> {
     let calls = day.calls.as_slice();
     let lines = day.lines as usize;

@@ -5,7 +5,14 @@ use std::fmt;
 pub struct Verdict {
     // the ends of the protection periods that began in the first run
     pub ends: Vec<u64>,
-    pub held: Result<Alike, Difference>,
+    pub finding: Finding,
+}
+
+#[derive(Clone, Copy, PartialEq, Eq, Debug, Drop)]
+pub enum Finding {
+    Alike(Alike),
+    Differ(Difference),
+    Silent(Silence),
 }
 
 // How many calls that are no ticks were answered alike, and how many trades are on both tapes.
@@ -18,10 +25,35 @@ pub struct Alike {
 // In the order in which they are looked for; the places count calls that are no ticks, or lines of the tape, from 1.
 #[derive(Clone, Copy, PartialEq, Eq, Debug, Drop)]
 pub enum Difference {
-    ShortTape,
     Answer(usize),
     Line(usize),
     Books,
+}
+
+// Why the law does not speak of a day.
+#[derive(Clone, Copy, PartialEq, Eq, Debug, Drop)]
+pub enum Silence {
+    LateTick(u64),
+    ShortTape,
+}
+
+impl From<Result<Alike, Difference>> for Finding {
+    fn from(held: Result<Alike, Difference>) -> Finding {
+        match held {
+            Ok(alike) => Finding::Alike(alike),
+            Err(difference) => Finding::Differ(difference),
+        }
+    }
+}
+
+impl fmt::Display for Finding {
+    fn fmt<W: fmt::Write>(&self, f: &mut fmt::Formatter<W>) -> fmt::Result {
+        match self {
+            Finding::Alike(alike) => write!(f, "{alike}"),
+            Finding::Differ(difference) => write!(f, "DIFFERS: {difference}"),
+            Finding::Silent(silence) => write!(f, "{silence}"),
+        }
+    }
 }
 
 impl fmt::Display for Alike {
@@ -37,15 +69,21 @@ impl fmt::Display for Alike {
 impl fmt::Display for Difference {
     fn fmt<W: fmt::Write>(&self, f: &mut fmt::Formatter<W>) -> fmt::Result {
         match self {
-            Difference::ShortTape => write!(
-                f,
-                "the tape was too short for a call, so that the law does not speak of this day"
-            ),
-            Difference::Answer(place) => {
-                write!(f, "DIFFERS: the answer to call {place}, ticks not counted")
-            }
-            Difference::Line(place) => write!(f, "DIFFERS: line {place} of the tape"),
-            Difference::Books => write!(f, "DIFFERS: what stands in the books at the end"),
+            Difference::Answer(place) => write!(f, "the answer to call {place}, ticks not counted"),
+            Difference::Line(place) => write!(f, "line {place} of the tape"),
+            Difference::Books => write!(f, "what stands in the books at the end"),
         }
+    }
+}
+
+impl fmt::Display for Silence {
+    fn fmt<W: fmt::Write>(&self, f: &mut fmt::Formatter<W>) -> fmt::Result {
+        match self {
+            Silence::LateTick(time) => {
+                write!(f, "the tick at {time} is later than a call after it")?
+            }
+            Silence::ShortTape => write!(f, "the tape was too short for a call")?,
+        }
+        write!(f, ", so that the law does not speak of this day")
     }
 }

@@ -1,0 +1,42 @@
+// What the arguments ask for.
+use crate::options::Options;
+
+pub const HELP: &str = "\
+usage: day [--directory rows|hashed] [--tape records|bytes] < DAYFILE
+
+Answers a day file line by line, on one book. Its commands are told in
+docs/RULES.md, section 22.
+
+  --directory rows|hashed  the make of the directory; rows if left out
+  --tape records|bytes     the make of the tape; records if left out
+  -h, --help               prints this
+  --version                prints the version
+
+Answers are the same on all makes. Reads commands from standard input, and the
+files that `load` names. Prints answers on standard output, and on standard
+error why a day ends early. `write FILE` writes FILE.new and renames it to FILE.
+
+Exit status:
+  0  the day ends at its close, at the end of its input, or at `refused 6`
+  1  a bad line, a file that cannot be read or written, or no memory
+  2  unknown arguments";
+
+#[derive(Clone, Copy, PartialEq, Eq, Debug, Drop)]
+pub enum Request {
+    Help,
+    Version,
+    Answer(Options),
+}
+
+impl Request {
+    pub fn read(args: &[String]) -> anyhow::Result<Request> {
+        for arg in args {
+            match arg.as_str() {
+                "-h" | "--help" => return Ok(Request::Help),
+                "--version" => return Ok(Request::Version),
+                _ => {}
+            }
+        }
+        Options::read(args).map(Request::Answer)
+    }
+}
