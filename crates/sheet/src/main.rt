@@ -1,11 +1,14 @@
 // The morning sheet: the orders of a register, with the price each ranks at and the price it reaches to at a quote.
 #![tactic(auto)]
 
+mod failure;
 mod prices;
 mod request;
 mod rows;
 
-use anyhow::{anyhow, bail};
+use crate::failure::Failure;
+use crate::request::{HELP, Request, VERSION};
+use anyhow::{Context, anyhow};
 use register::faults::Fault;
 use register::listed::Listed;
 use register::reader::Reader;
@@ -59,25 +62,44 @@ fn print_sheet(rt: &HostRuntime, quote: Quote, register: &[u8]) -> io::Result<()
     println!(rt; "{orders} orders, {refused} tickets refused")
 }
 
-fn run(rt: &HostRuntime) -> anyhow::Result<()> {
-    let heap = rt.alloc();
-    let args: Vec<String> = env::args(rt)?.collect(heap)?;
-    let [_, bid, offer, path] = args.as_slice() else {
-        bail!("usage: sheet BID OFFER REGISTER, bid and offer in whole cents");
-    };
-    let quote = request::quote(bid.as_str(), offer.as_str())?;
-    let register = fs::read(rt, path.as_str()).map_err(|e| anyhow!("cannot read {path}: {e}"))?;
+fn quote(bid: u32, offer: u32) -> anyhow::Result<Quote> {
+    Quote::new(bid, offer).map_err(|refusal| {
+        let number = refusal.number();
+        anyhow!("refused {number}: a quote needs 1 <= bid < offer <= 2000000, not {bid} by {offer}")
+    })
+}
+
+fn sheet(rt: &HostRuntime, bid: u32, offer: u32, path: &str) -> anyhow::Result<()> {
+    let quote = quote(bid, offer)?;
+    let register = fs::read(rt, path).context(format_args!("cannot read {path}"))?;
     print_sheet(rt, quote, register.as_slice())?;
     Ok(())
 }
 
-// As in the other programs that print their own faults: they share no library of ours that prints.
-fn main(rt: HostRuntime) -> io::Result<ExitCode> {
+fn arguments(rt: &HostRuntime) -> io::Result<Vec<String>> {
+    Ok(env::args(rt)?.skip(1).collect(rt.alloc())?)
+}
+
+fn answer(rt: &HostRuntime, request: Request<'_>) -> anyhow::Result<()> {
+    match request {
+        Request::Help => Ok(rt.println(HELP)?),
+        Request::Version => Ok(println!(rt; "sheet (Foszkelad) {VERSION}")?),
+        Request::Sheet { bid, offer, path } => sheet(rt, bid, offer, path),
+    }
+}
+
+fn run(rt: &HostRuntime) -> Result<(), Failure> {
+    let args = arguments(rt).map_err(|e| Failure::NoSheet(e.into()))?;
+    let request = Request::read(args.as_slice()).map_err(Failure::Usage)?;
+    answer(rt, request).map_err(Failure::NoSheet)
+}
+
+fn main(rt: HostRuntime) -> ExitCode {
     match run(&rt) {
-        Ok(()) => Ok(ExitCode::SUCCESS),
-        Err(e) => {
-            eprintln!(rt; "sheet: {e}")?;
-            Ok(ExitCode::FAILURE)
+        Ok(()) => ExitCode::SUCCESS,
+        Err(failure) => {
+            let _ = eprintln!(rt; "sheet: {failure}");
+            failure.status()
         }
     }
 }
