@@ -3,10 +3,15 @@
 
 mod hex;
 
+use anyhow::{Context, ensure};
 use register::listed::Listed;
 use register::reader::Reader;
-use std::io;
 use std::io::{BufRead, BufReader};
+use std::process::ExitCode;
+use std::{env, io};
+
+// The exit status for arguments, of which it takes none, and for input that cannot be read.
+const FAILED: u8 = 2;
 
 fn print_order(rt: &HostRuntime, order: Listed<'_>) -> io::Result<()> {
     let place = order.place;
@@ -39,18 +44,29 @@ fn print_register(rt: &HostRuntime, register: &[u8]) -> io::Result<()> {
     Ok(())
 }
 
-fn main(rt: HostRuntime) -> anyhow::Result<()> {
+fn run(rt: &HostRuntime) -> anyhow::Result<()> {
+    ensure!(env::args(rt)?.len() <= 1, "usage: dump < REGISTERS");
     let heap = rt.alloc();
     for line in BufReader::new(heap, rt.stdin())?.lines(heap) {
-        let line = line?;
+        let line = line.context("cannot read standard input")?;
         if line.as_str().starts_with('#') {
             rt.println(line)?;
         } else {
             match hex::bytes(heap, line.as_str())? {
-                Some(register) => print_register(&rt, register.as_slice())?,
+                Some(register) => print_register(rt, register.as_slice())?,
                 None => rt.println("not pairs of hexadecimal digits")?,
             }
         }
     }
     Ok(())
+}
+
+fn main(rt: HostRuntime) -> ExitCode {
+    match run(&rt) {
+        Ok(()) => ExitCode::SUCCESS,
+        Err(e) => {
+            let _ = eprintln!(rt; "dump: {e:#}");
+            ExitCode::from(FAILED)
+        }
+    }
 }

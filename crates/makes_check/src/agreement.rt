@@ -22,6 +22,10 @@ impl Agreement {
         }
     }
 
+    pub fn holds(self) -> bool {
+        !self.differ
+    }
+
     pub fn add(&mut self, told: u64) {
         self.sum = self.sum.wrapping_mul(31).wrapping_add(told);
     }

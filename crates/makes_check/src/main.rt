@@ -2,19 +2,25 @@
 #![tactic(auto)]
 
 mod agreement;
+mod ending;
 mod names;
 mod random;
 mod schedule;
 mod tapes;
 
+use crate::ending::Ending;
 use crate::names::pool;
 use crate::random::Random;
 use crate::schedule::{compare, fill};
 use crate::tapes::compare_tapes;
+use anyhow::ensure;
 use directory::rows::RowDirectory;
 use directory::table::HashedDirectory;
+use std::env;
+use std::process::ExitCode;
 
-fn run(rt: &HostRuntime) -> anyhow::Result<()> {
+fn run(rt: &HostRuntime) -> anyhow::Result<Ending> {
+    ensure!(env::args(rt)?.len() <= 1, "usage: makes_check");
     let heap = rt.alloc();
     let names = pool(heap)?;
     let mut random = Random::new(20241);
@@ -28,9 +34,17 @@ fn run(rt: &HostRuntime) -> anyhow::Result<()> {
     println!(rt; "schedule: {tally}")?;
     let tape = compare_tapes(&mut random);
     println!(rt; "tapes: {tape}")?;
-    Ok(())
+    let agree = filled.agree() && tally.agree() && tape.agree();
+    Ok(Ending::of(agree))
 }
 
-fn main(rt: HostRuntime) -> anyhow::Result<()> {
-    run(&rt)
+fn main(rt: HostRuntime) -> ExitCode {
+    let ending = match run(&rt) {
+        Ok(ending) => ending,
+        Err(e) => {
+            let _ = eprintln!(rt; "makes_check: {e:#}");
+            Ending::Failed
+        }
+    };
+    ExitCode::from(ending)
 }

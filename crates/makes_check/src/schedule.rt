@@ -59,6 +59,10 @@ impl fmt::Display for Tally {
 }
 
 impl Tally {
+    pub fn agree(&self) -> bool {
+        self.agreement.holds()
+    }
+
     fn count_put(&mut self, one: Result<(), PutRefusal>, other: Result<(), PutRefusal>) {
         self.agreement.compare(&one, &other);
         let count = match one {

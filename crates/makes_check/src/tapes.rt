@@ -38,6 +38,12 @@ impl fmt::Display for TapeTally {
     }
 }
 
+impl TapeTally {
+    pub fn agree(&self) -> bool {
+        self.agreement.holds()
+    }
+}
+
 fn line_from(random: &mut Random) -> Line {
     let time = u64::from(random.next()) * 20;
     let partner = random.next();

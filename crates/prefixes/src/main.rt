@@ -8,14 +8,19 @@ mod trial;
 use crate::stored::REGISTER;
 use crate::tally::Tally;
 use crate::trial::try_register;
-use anyhow::Context;
+use anyhow::{Context, ensure};
 use directory::rows::RowDirectory;
 use loading::slips::Slip;
 use roll::log::Roll;
 use std::alloc::Global;
+use std::env;
+use std::process::ExitCode;
 use tape::line::Line;
 use tape::records::RecordTape;
 use terms::lawful::Quote;
+
+// The exit status for arguments, of which it takes none, and where there is no memory.
+const FAILED: u8 = 2;
 
 // Directory, tape and roll are new for each load; the roll has so many places, at most four.
 fn load_new(
@@ -56,6 +61,7 @@ fn changes(heap: Global, quote: Quote, places: usize) -> anyhow::Result<Tally> {
 }
 
 fn run(rt: &HostRuntime) -> anyhow::Result<()> {
+    ensure!(env::args(rt)?.len() <= 1, "usage: prefixes");
     let heap = rt.alloc();
     let quote = Quote::new(1000, 1001).ok().context("no quote")?;
     for places in [4, 1] {
@@ -66,6 +72,12 @@ fn run(rt: &HostRuntime) -> anyhow::Result<()> {
     Ok(())
 }
 
-fn main(rt: HostRuntime) -> anyhow::Result<()> {
-    run(&rt)
+fn main(rt: HostRuntime) -> ExitCode {
+    match run(&rt) {
+        Ok(()) => ExitCode::SUCCESS,
+        Err(e) => {
+            let _ = eprintln!(rt; "prefixes: {e:#}");
+            ExitCode::from(FAILED)
+        }
+    }
 }

@@ -2,16 +2,19 @@
 #![tactic(auto)]
 
 mod day;
+mod ending;
 mod makes;
 
+use crate::ending::Ending;
 use crate::makes::{on_bytes, on_records};
 use anyhow::Context;
 use directory::rows::RowDirectory;
 use directory::table::HashedDirectory;
 use std::io::Write;
+use std::process::ExitCode;
 use std::{env, fs};
 
-fn run(rt: &HostRuntime) -> anyhow::Result<()> {
+fn run(rt: &HostRuntime) -> anyhow::Result<Ending> {
     let heap = rt.alloc();
     let mut days = Vec::new(heap);
     for file in env::args(rt)?.skip(1) {
@@ -31,9 +34,16 @@ fn run(rt: &HostRuntime) -> anyhow::Result<()> {
     println!(rt; "the same on rows and bytes: {rows_bytes}")?;
     println!(rt; "the same on hashed and records: {hashed_records}")?;
     println!(rt; "the same on hashed and bytes: {hashed_bytes}")?;
-    Ok(())
+    Ok(Ending::of(rows_bytes && hashed_records && hashed_bytes))
 }
 
-fn main(rt: HostRuntime) -> anyhow::Result<()> {
-    run(&rt)
+fn main(rt: HostRuntime) -> ExitCode {
+    let ending = match run(&rt) {
+        Ok(ending) => ending,
+        Err(e) => {
+            let _ = eprintln!(rt; "worked_day: {e:#}");
+            Ending::Failed
+        }
+    };
+    ExitCode::from(ending)
 }
