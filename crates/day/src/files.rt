@@ -4,9 +4,9 @@ use std::io::{ErrorKind, Write};
 use std::{fs, io};
 
 // Writes into the file, which is opened; its bytes are on the disk before it is closed.
-fn fill(mut file: File, bytes: &[u8], permissions: Option<Permissions>) -> io::Result<()> {
-    if let Some(permissions) = permissions {
-        file.set_permissions(permissions)?;
+fn fill(mut file: File, bytes: &[u8], mode: Option<Permissions>) -> io::Result<()> {
+    if let Some(mode) = mode {
+        file.set_permissions(mode)?;
     }
     file.write_all(bytes)?;
     file.sync_all()
@@ -17,23 +17,19 @@ fn replace_whole(
     rt: &HostRuntime,
     path: &str,
     bytes: &[u8],
-    permissions: Option<Permissions>,
+    mode: Option<Permissions>,
 ) -> io::Result<()> {
-    let beside = format!(in rt.alloc(); "{path}.new")?;
-    let file = File::create(rt, beside.as_str())?;
-    let replaced = fill(file, bytes, permissions).and_then(|()| fs::rename(
-        rt,
-        beside.as_str(),
-        path,
-    ));
+    let new = format!(in rt.alloc(); "{path}.new")?;
+    let file = File::create(rt, new.as_str())?;
+    let replaced = fill(file, bytes, mode).and_then(|()| fs::rename(rt, new.as_str(), path));
     if replaced.is_err() {
-        let _ = fs::remove_file(rt, beside.as_str());
+        let _ = fs::remove_file(rt, new.as_str());
     }
     replaced
 }
 
 // Puts the bytes in the place of what the file held. It is opened first as if it were written in place, so that it is refused where
-// it may not be written; what is no plain file, as a terminal or a pipe, is written so.
+// it may not be written. A link stays, and what it names is replaced; what is no plain file, as a terminal or a pipe, is written.
 pub fn replace(rt: &HostRuntime, path: &str, bytes: &[u8]) -> io::Result<()> {
     let mut file = match File::options().write(true).open(rt, path) {
         Ok(file) => file,
@@ -41,9 +37,10 @@ pub fn replace(rt: &HostRuntime, path: &str, bytes: &[u8]) -> io::Result<()> {
         Err(e) => return Err(e),
     };
     let there = file.metadata()?;
-    if there.is_file() {
-        replace_whole(rt, path, bytes, Some(there.permissions()))
-    } else {
-        file.write_all(bytes)
+    if !there.is_file() {
+        return file.write_all(bytes);
     }
+    let mode = Some(there.permissions());
+    let named = fs::canonicalize(rt, path)?;
+    replace_whole(rt, named.as_path().as_str(), bytes, mode)
 }
