@@ -9,5 +9,5 @@ pub mod registers;
 pub mod telling;
 mod words;
 
-// Of the programs that answer days.
+// Of the programs.
 pub const VERSION: &str = "1.0";
