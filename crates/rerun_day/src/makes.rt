@@ -1,7 +1,7 @@
 // The day as it is on rows and records, the other list on a hashed directory and bytes.
 use crate::day::Day;
 use crate::verdict::Verdict;
-use anyhow::Context;
+use anyhow::{Context, bail};
 use directory::rows::RowDirectory;
 use directory::table::HashedDirectory;
 use replay::calls::Call;
@@ -21,7 +21,7 @@ pub fn on_makes(heap: Global, day: &Day, other_calls: &[Call]) -> anyhow::Result
         .context("no memory for the tape")?;
     let mut records = vec![in heap; Line::default(); lines]?;
     let mut bytes = vec![in heap; 0u8; size]?;
-    let (first, second) = rerun(
+    let Ok((first, second)) = rerun(
         heap,
         day.quote,
         RowDirectory::new(heap)?,
@@ -30,8 +30,8 @@ pub fn on_makes(heap: Global, day: &Day, other_calls: &[Call]) -> anyhow::Result
         HashedDirectory::new(heap)?,
         ByteTape::new(bytes.as_mut_slice()),
         other_calls,
-    )
-    .ok()
-    .context("no memory for the books")?;
+    ) else {
+        bail!("no memory for the books");
+    };
     Ok(Verdict::of(heap, calls, &first, other_calls, &second)?)
 }
