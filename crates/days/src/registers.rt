@@ -15,7 +15,7 @@ use tape::tapes::Tape;
 use writing::fill::NoRoom;
 
 // How many slips a load has places for.
-const SLIPS: usize = 64;
+pub const SLIP_PLACES: usize = 64;
 
 fn tell_slips(slips: &Roll<'_, Slip>, out: &mut Output) -> Result<(), AllocError> {
     for slip in slips.as_slice() {
@@ -34,7 +34,7 @@ fn tell_end(ended: Result<Loaded, LoadFault>, out: &mut Output) -> Result<(), Al
 impl<D: Directory, T: Tape> Desk<D, T> {
     // The slips, how the load ended, and the trades that it made.
     pub fn load(&mut self, time: u64, register: &[u8], out: &mut Output) -> Result<(), AllocError> {
-        let mut room = [Slip::default(); SLIPS];
+        let mut room = [Slip::default(); SLIP_PLACES];
         let mut slips = Roll::new(&mut room);
         let ended = load(&mut self.book, time, register, &mut slips);
         tell_slips(&slips, out)?;

@@ -1,5 +1,6 @@
 // Two runs held against each other.
 use crate::lists::is_tick;
+use crate::load::Load;
 use crate::verdict::{Alike, Difference, Finding, Silence, Verdict};
 use book::state::Book;
 use directory::directories::Directory;
@@ -93,18 +94,34 @@ fn tape_short<D: Directory, T: Tape>(run: &Played<D, T>) -> bool {
     run.answers.contains(&Answer::Refused(Refusal::TapeShort))
 }
 
-impl Finding {
-    // A tape that was too short for a call counts first, for the law does not speak of that day.
+impl Silence {
+    // A load counts first: behind a slip that found no place, the list has calls that the day does not make.
     fn of<D: Directory, T: Tape, E: Directory, U: Tape>(
+        loads: &[Load],
+        first: &Played<D, T>,
+        second: &Played<E, U>,
+    ) -> Option<Silence> {
+        let answers = first.answers.as_slice();
+        if loads.iter().any(|load| load.runs_out(answers)) {
+            return Some(Silence::SlipsFull);
+        }
+        (tape_short(first) || tape_short(second)).then_some(Silence::ShortTape)
+    }
+}
+
+impl Finding {
+    // Where the law does not speak of the day, nothing is compared.
+    fn of<D: Directory, T: Tape, E: Directory, U: Tape>(
+        loads: &[Load],
         first: &Played<D, T>,
         second: &Played<E, U>,
         answers: &[Answer],
         others: &[Answer],
     ) -> Finding {
-        if tape_short(first) || tape_short(second) {
-            return Finding::Silent(Silence::ShortTape);
+        match Silence::of(loads, first, second) {
+            Some(silence) => Finding::Silent(silence),
+            None => held(first, second, answers, others).into(),
         }
-        held(first, second, answers, others).into()
     }
 }
 
@@ -112,6 +129,7 @@ impl Verdict {
     pub fn of<D: Directory, T: Tape, E: Directory, U: Tape>(
         heap: Global,
         calls: &[Call],
+        loads: &[Load],
         first: &Played<D, T>,
         other_calls: &[Call],
         second: &Played<E, U>,
@@ -120,7 +138,7 @@ impl Verdict {
         let others = shared_answers(heap, other_calls, second.answers.as_slice())?;
         Ok(Verdict {
             ends: ends(heap, &first.book, &second.book)?,
-            finding: Finding::of(first, second, answers.as_slice(), others.as_slice()),
+            finding: Finding::of(loads, first, second, answers.as_slice(), others.as_slice()),
         })
     }
 }

@@ -1,12 +1,12 @@
 // A day file as a list of calls. Questions alter nothing and are passed over, and so is what makes no call: a ticket or a quote
 // that is refused. A register that is loaded stands as the entries that it makes.
+use crate::load::Load;
 use anyhow::Context;
 use days::commands::{BadLine, Command, Expected, read_command};
 use register::reader::Reader;
 use replay::calls::Call;
 use std::alloc::{AllocError, Global};
 use std::fs;
-use terms::kinds::Draft;
 use terms::lawful::{Quote, Ticket};
 
 #[derive(Drop)]
@@ -15,18 +15,16 @@ pub struct Day {
     // how many lines the tape has room for
     pub lines: u64,
     pub calls: Vec<Call>,
+    pub loads: Vec<Load>,
 }
 
 fn entry(
     heap: Global,
     time: u64,
     id: &[u8],
-    draft: Draft,
+    ticket: Ticket,
     calls: &mut Vec<Call>,
 ) -> Result<(), AllocError> {
-    let Ok(ticket) = Ticket::new(draft) else {
-        return Ok(());
-    };
     let id = id.to_vec(heap)?;
     Ok(calls.push(Call::Entry { time, id, ticket })?)
 }
@@ -36,16 +34,29 @@ fn entries(
     time: u64,
     register: &[u8],
     calls: &mut Vec<Call>,
-) -> Result<(), AllocError> {
+) -> Result<Load, AllocError> {
+    let begin = calls.len();
+    let mut refused_tickets = 0usize;
     for order in Reader::new(register).filter_map(|order| order.ok()) {
-        entry(heap, time, order.identifier.bytes, order.draft, calls)?;
+        match order.ticket() {
+            Ok(ticket) => entry(heap, time, order.identifier.bytes, ticket, calls)?,
+            Err(_) => refused_tickets = refused_tickets.saturating_add(1),
+        }
     }
-    Ok(())
+    Ok(Load {
+        begin,
+        end: calls.len(),
+        refused_tickets,
+    })
 }
 
 fn add(heap: Global, command: &Command, calls: &mut Vec<Call>) -> Result<(), AllocError> {
     match command {
-        Command::Entry { time, id, draft } => entry(heap, *time, id, *draft, calls)?,
+        Command::Entry { time, id, draft } => {
+            if let Ok(ticket) = Ticket::new(*draft) {
+                entry(heap, *time, id, ticket, calls)?;
+            }
+        }
         Command::Cancel { time, id } => calls.push(Call::Cancel {
             time: *time,
             id: id.to_vec(heap)?,
@@ -73,11 +84,11 @@ pub fn read_day(rt: &HostRuntime, text: &[u8]) -> anyhow::Result<Option<Day>> {
                 let Ok(quote) = Quote::new(bid, offer) else {
                     return Ok(None);
                 };
-                let calls = Vec::new(heap);
                 day = Some(Day {
                     quote,
                     lines,
-                    calls,
+                    calls: Vec::new(heap),
+                    loads: Vec::new(heap),
                 });
             }
             (Some(Command::Close), Some(_)) => break,
@@ -89,7 +100,8 @@ pub fn read_day(rt: &HostRuntime, text: &[u8]) -> anyhow::Result<Option<Day>> {
                 let register = fs::read(rt, file).context(format_args!(
                     "line {number}: cannot read {file}"
                 ))?;
-                entries(heap, time, register.as_slice(), &mut day.calls)?;
+                let load = entries(heap, time, register.as_slice(), &mut day.calls)?;
+                day.loads.push(load)?;
             }
             (Some(command), Some(day)) => add(heap, &command, &mut day.calls)?,
         }

@@ -6,6 +6,7 @@ mod compare;
 mod day;
 mod ending;
 mod lists;
+mod load;
 mod makes;
 mod request;
 mod verdict;

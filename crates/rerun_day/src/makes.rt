@@ -15,6 +15,7 @@ use tape::records::RecordTape;
 // The rooms stand here, where the tapes that borrow them are made.
 pub fn on_makes(heap: Global, day: &Day, other_calls: &[Call]) -> anyhow::Result<Verdict> {
     let calls = day.calls.as_slice();
+    let loads = day.loads.as_slice();
     let lines = day.lines as usize;
     let size = lines
         .checked_mul(LINE_BYTES)
@@ -33,5 +34,5 @@ pub fn on_makes(heap: Global, day: &Day, other_calls: &[Call]) -> anyhow::Result
     ) else {
         bail!("no memory for the books");
     };
-    Ok(Verdict::of(heap, calls, &first, other_calls, &second)?)
+    Ok(Verdict::of(heap, calls, loads, &first, other_calls, &second)?)
 }

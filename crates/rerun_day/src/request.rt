@@ -19,8 +19,8 @@ Exit status:
   0  all that is compared agrees, or the quote is unlawful and no book is opened
   1  an answer, a trade or a book differs
   2  unknown arguments, a bad line, a file that cannot be read, or no memory
-  3  the law does not speak of the day: a tick is later than a call after it, or
-     the tape was too short for a call";
+  3  the law does not speak of the day: a tick is later than a call after it, a
+     load had no place left for a slip, or the tape was too short for a call";
 
 #[derive(Clone, Copy, PartialEq, Eq, Debug, Drop)]
 pub enum Request {

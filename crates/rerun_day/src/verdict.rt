@@ -34,6 +34,7 @@ pub enum Difference {
 #[derive(Clone, Copy, PartialEq, Eq, Debug, Drop)]
 pub enum Silence {
     LateTick(u64),
+    SlipsFull,
     ShortTape,
 }
 
@@ -82,6 +83,7 @@ impl fmt::Display for Silence {
             Silence::LateTick(time) => {
                 write!(f, "the tick at {time} is later than a call after it")?
             }
+            Silence::SlipsFull => write!(f, "a load had no place left for a slip")?,
             Silence::ShortTape => write!(f, "the tape was too short for a call")?,
         }
         write!(f, ", so that the law does not speak of this day")
