@@ -5,21 +5,21 @@ use Rattle.std.specs.List.{AllByRecursion as Every}
 use Rattle.std.specs.Coded.{le_prop}
 use Rattle.std.proofs.Math.Logic.{∥∥₁_elim}
 use Rattle.std.proofs.lemmas.Bool.{leb-false}
-use Rattle.terms.specs.declared.kinds.TimeInForce.{TimeInForce}
-use Rattle.terms.specs.declared.kinds.TimeInForce.TheVariants.{Rest, ImmediateOrCancel}
+use Rattle.terms.specs.declared.time_in_force.TimeInForce.{TimeInForce}
+use Rattle.terms.specs.declared.time_in_force.TimeInForce.TheVariants.{Rest, ImmediateOrCancel}
 use Rattle.terms.specs.Terms.{OrderTerms, is_ioc}
 use Rattle.terms.specs.Identifiers.{lawful_identifier}
 use Rattle.tape.specs.declared.line.Line.{Line}
-use Rattle.tape.specs.declared.tapes.Tape.{Ghosts as TapeOf}
-use Rattle.directory.specs.declared.directories.Directory.{Ghosts as DirectoryOf}
+use Rattle.tape.specs.declared.tape.Tape.{Ghosts as TapeOf}
+use Rattle.directory.specs.declared.directory.Directory.{Ghosts as DirectoryOf}
 use Rattle.rules.specs.Limits.{most_resting}
 use Rattle.rules.specs.Market.{Order, Market, Book}
 use Rattle.rules.specs.Answers.{entered}
 use Rattle.rules.specs.Calls.{Outcome, entry, new_order, swept_in, rested, done_at}
 use Rattle.rules.proofs.Numbers.{numbers_ascend, orders_within_places}
-use Rattle.orders.specs.declared.row.Row.{Row}
-use Rattle.orders.specs.Rows.{row_order}
-use Rattle.orders.specs.Changes.{newest_number}
+use Rattle.market.specs.declared.row.Row.{Row}
+use Rattle.market.specs.Rows.{row_order}
+use Rattle.market.specs.Changes.{newest_number}
 use Rattle.market.specs.Markets.{capacity_of}
 use Rattle.book.specs.declared.engine.Engine.{Engine}
 use Rattle.book.specs.Tied.{row_name}

@@ -5,8 +5,8 @@ use Rattle.std.proofs.Common.{◌≡◌, ℕ, ◌+◌, ◌-◌, ◌≤◌, Bool,
 use Rattle.std.specs.Coded.{le_prop}
 use Rattle.std.proofs.Math.Logic.{∥∥₁_map, ∥∥₁_elim}
 use Rattle.std.proofs.lemmas.Bool.{leb-true, and_parts}
-use Rattle.tape.specs.declared.tapes.Tape.{Ghosts as TapeOf}
-use Rattle.directory.specs.declared.directories.Directory.{Ghosts as DirectoryOf}
+use Rattle.tape.specs.declared.tape.Tape.{Ghosts as TapeOf}
+use Rattle.directory.specs.declared.directory.Directory.{Ghosts as DirectoryOf}
 use Rattle.rules.specs.declared.refusal.Refusal.{Refusal}
 use Rattle.rules.specs.declared.refusal.Refusal.TheVariants.{Time, TapeShort, NoSuchOrder}
 use Rattle.rules.specs.Limits.{last_moment}
@@ -19,7 +19,7 @@ use Rattle.rules.proofs.Cases.{option_none, option_some}
 use Rattle.rules.proofs.Runs.{run_push}
 use Rattle.rules.proofs.Lasting.{call_untimely, call_short, call_done, at_time_clock}
 use Rattle.rules.proofs.Count.{lines_within_orders}
-use Rattle.orders.specs.Changes.{AllRest}
+use Rattle.market.specs.Changes.{AllRest}
 use Rattle.market.specs.Markets.{market_of, capacity_of, HasRoom}
 use Rattle.book.specs.declared.engine.Engine.{Engine}
 use Rattle.book.specs.Books.{book_of, BookTied, Reached, Sound}

@@ -9,9 +9,9 @@ use Rattle.rules.specs.Limits.{most_entries}
 use Rattle.rules.specs.Market.{Order, Book}
 use Rattle.rules.specs.Calls.{Outcome, refuse, entry, named, no_place, new_order, swept_in, rested, done_at}
 use Rattle.rules.proofs.Cases.{option_cases}
-use Rattle.orders.specs.declared.row.Row.{Row}
-use Rattle.orders.specs.Rows.{row_order, rising, orders_in}
-use Rattle.orders.specs.Changes.{AllRest, newest_number}
+use Rattle.market.specs.declared.row.Row.{Row}
+use Rattle.market.specs.Rows.{row_order, rising, orders_in}
+use Rattle.market.specs.Changes.{AllRest, newest_number}
 use Rattle.book.specs.Tied.{number_named}
 use Rattle.book.specs.Entering.{numbered_unless, entry_test}
 use Rattle.book.proofs.Named.{found_none, found_some}

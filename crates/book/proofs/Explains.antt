@@ -8,8 +8,8 @@ use Rattle.std.specs.List.{AllByRecursion as Every}
 use Rattle.std.proofs.Math.Logic.{∥∥₁_map, ∥∥₁_elim}
 use Rattle.std.proofs.Props.{props}
 use Rattle.tape.specs.declared.line.Line.{Line}
-use Rattle.tape.specs.declared.tapes.Tape.{Ghosts as TapeOf}
-use Rattle.directory.specs.declared.directories.Directory.{Ghosts as DirectoryOf}
+use Rattle.tape.specs.declared.tape.Tape.{Ghosts as TapeOf}
+use Rattle.directory.specs.declared.directory.Directory.{Ghosts as DirectoryOf}
 use Rattle.rules.specs.Limits.{protection_period}
 use Rattle.rules.specs.Market.{Order, Book, side_of, ranked_in, reach_in}
 use Rattle.rules.specs.Sweep.{side_mark}

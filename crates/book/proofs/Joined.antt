@@ -5,14 +5,14 @@ use Rattle.std.proofs.lemmas.List.{length-map, map_push, take-map}
 use lib.Seq.{take-append_seam}
 use Rattle.std.proofs.lemmas.Bool.{cases_Bool, lt-ltb}
 use Rattle.terms.specs.Identifiers.{lawful_identifier}
-use Rattle.directory.specs.declared.directories.PutRefusal.{PutRefusal}
-use Rattle.directory.specs.declared.directories.PutRefusal.TheVariants.{Unlawful, Held, Full}
+use Rattle.directory.specs.declared.directory.PutRefusal.{PutRefusal}
+use Rattle.directory.specs.declared.directory.PutRefusal.TheVariants.{Unlawful, Held, Full}
 use Rattle.directory.specs.Pairs.{Added, RefusedPut, put_refusal}
 use Rattle.rules.specs.Calls.{same_bytes}
 use Rattle.rules.proofs.Cases.{if_true, none_some}
-use Rattle.orders.specs.declared.row.Row.{Row}
-use Rattle.orders.specs.Changes.{with_left, SameButShares, newest_number}
-use Rattle.orders.proofs.Dropped.{newest_of_push}
+use Rattle.market.specs.declared.row.Row.{Row}
+use Rattle.market.specs.Changes.{with_left, SameButShares, newest_number}
+use Rattle.market.proofs.Dropped.{newest_of_push}
 use Rattle.book.specs.Tied.{row_name, number_named, Apart, Tied}
 use Rattle.book.proofs.Ties.{same_decides, clash, clash_tests, unlike, first, later}
 

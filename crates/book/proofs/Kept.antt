@@ -2,8 +2,8 @@
 use Rattle.std.proofs.Common.{◌≡◌, ℕ, true, false, List, [], ◌∷◌, map, length, Some, Option, sym, refl, ap, ◌∙◌, subst}
 use Rattle.std.proofs.lemmas.List.{length-map}
 use Rattle.rules.specs.Calls.{same_bytes}
-use Rattle.orders.specs.declared.row.Row.{Row}
-use Rattle.orders.specs.Changes.{with_left, SameButShares}
+use Rattle.market.specs.declared.row.Row.{Row}
+use Rattle.market.specs.Changes.{with_left, SameButShares}
 use Rattle.book.specs.Tied.{row_name, number_named, Apart, Tied}
 
 by_name : (id : List ℕ) (rs : List Row) → number_named id (map (with_left 0) rs) ≡ number_named id rs

@@ -5,9 +5,9 @@ use Rattle.std.proofs.lemmas.Bool.{cases_Bool, and_parts, ltb-true, ne_eqb, eq-e
 use Rattle.rules.specs.Market.{Order, resting}
 use Rattle.rules.specs.Calls.{same_bytes, named}
 use Rattle.rules.proofs.Cases.{if_true, if_false}
-use Rattle.orders.specs.declared.row.Row.{Row}
-use Rattle.orders.specs.Rows.{row_order, rising, orders_in}
-use Rattle.orders.specs.Changes.{AllRest}
+use Rattle.market.specs.declared.row.Row.{Row}
+use Rattle.market.specs.Rows.{row_order, rising, orders_in}
+use Rattle.market.specs.Changes.{AllRest}
 use Rattle.book.specs.Tied.{row_name, number_named}
 
 -- the order that an identifier names, with its number, which no other order has

@@ -3,16 +3,16 @@
 use Rattle.std.proofs.Common.{◌≡◌, ℕ, ◌+◌, false, List, [], ◌∷◌, length, is_some, vec_items, Option, sym, refl, ap, ◌∙◌, subst, arith}
 use Rattle.roll.specs.Rolls.{at_place}
 use Rattle.tape.specs.declared.line.Line.{Line}
-use Rattle.tape.specs.declared.tapes.Tape.{Ghosts as TapeOf}
-use Rattle.directory.specs.declared.directories.Directory.{Ghosts as DirectoryOf}
+use Rattle.tape.specs.declared.tape.Tape.{Ghosts as TapeOf}
+use Rattle.directory.specs.declared.directory.Directory.{Ghosts as DirectoryOf}
 use Rattle.directory.specs.Pairs.{Emptied}
 use Rattle.rules.specs.Market.{Book}
 use Rattle.rules.specs.Runs.{opened, run}
-use Rattle.orders.specs.declared.table.Table.{Table}
-use Rattle.orders.specs.declared.row.Row.{Row}
-use Rattle.orders.specs.Changes.{AllRest}
-use Rattle.orders.specs.Seen.{market_with, seen}
-use Rattle.orders.proofs.Retired.{rests_none}
+use Rattle.market.specs.declared.table.Table.{Table}
+use Rattle.market.specs.declared.row.Row.{Row}
+use Rattle.market.specs.Changes.{AllRest}
+use Rattle.market.specs.Seen.{market_with, seen}
+use Rattle.market.proofs.Retired.{rests_none}
 use Rattle.book.specs.declared.engine.Engine.{Engine}
 use Rattle.book.specs.Tied.{Tied, number_named}
 use Rattle.book.specs.Books.{book_of, Sound}

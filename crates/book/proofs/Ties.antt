@@ -6,7 +6,7 @@ use Rattle.std.proofs.lemmas.Bool.{cases_Bool}
 use Rattle.directory.specs.Pairs.{Removed, Kept}
 use Rattle.rules.specs.Calls.{same_bytes}
 use Rattle.rules.proofs.Cases.{if_true, if_false}
-use Rattle.orders.specs.declared.row.Row.{Row}
+use Rattle.market.specs.declared.row.Row.{Row}
 use Rattle.book.specs.Tied.{row_name, number_named, Apart, Tied}
 
 pub same_decides : (xs ys : List ℕ) → Decides (same_bytes xs ys) (xs ≡ ys)

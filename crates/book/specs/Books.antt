@@ -1,11 +1,11 @@
 -- The book as the rule book's book, and what holds of it between calls.
 use Rattle.std.specs.Prelude.{◌≡◌, ℕ, List, vec_items}
-use Rattle.tape.specs.declared.tapes.Tape.{Ghosts as TapeOf}
-use Rattle.directory.specs.declared.directories.Directory.{Ghosts as DirectoryOf}
+use Rattle.tape.specs.declared.tape.Tape.{Ghosts as TapeOf}
+use Rattle.directory.specs.declared.directory.Directory.{Ghosts as DirectoryOf}
 use Rattle.rules.specs.Market.{Book}
 use Rattle.rules.specs.Calls.{Call}
 use Rattle.rules.specs.Runs.{opened, run}
-use Rattle.orders.specs.Changes.{AllRest}
+use Rattle.market.specs.Changes.{AllRest}
 use Rattle.market.specs.Markets.{market_of, capacity_of}
 use Rattle.book.specs.declared.engine.Engine.{Engine}
 use Rattle.book.specs.Tied.{Tied}

@@ -1,17 +1,17 @@
 -- What a call promises: its answer and the book after it are the rule book's, and the book is sound again.
 use Rattle.std.specs.Prelude.{◌≡◌, ℕ, ◌≤◌, true, false, ◌&&◌, List, [], ◌∷◌, length, Ok, Err, vec_items, Result, nat_le}
-use Rattle.tape.specs.declared.tapes.Tape.{Ghosts as TapeOf}
-use Rattle.directory.specs.declared.directories.Directory.{Ghosts as DirectoryOf}
+use Rattle.tape.specs.declared.tape.Tape.{Ghosts as TapeOf}
+use Rattle.directory.specs.declared.directory.Directory.{Ghosts as DirectoryOf}
 use Rattle.rules.specs.declared.refusal.Refusal.{Refusal}
 use Rattle.rules.specs.declared.refusal.Refusal.TheVariants.{Time, TapeShort}
 use Rattle.rules.specs.Limits.{last_moment}
 use Rattle.rules.specs.Market.{Book}
 use Rattle.rules.specs.Answers.{Answer, entered, cancelled, quoted, ticked, refused, refusal_number, Told, told}
 use Rattle.rules.specs.Calls.{Call, Outcome, call, done_at, time_of, names_lawfully}
-use Rattle.orders.specs.Changes.{AllRest}
+use Rattle.market.specs.Changes.{AllRest}
 use Rattle.market.specs.Markets.{capacity_of, HasRoom}
 use Rattle.book.specs.declared.engine.Engine.{Engine}
-use Rattle.book.specs.declared.refusals.Rejected.{Rejected}
+use Rattle.book.specs.declared.refusal.Rejected.{Rejected}
 use Rattle.book.specs.Books.{book_of, BookTied, Sound}
 
 -- what the rule book makes of a call, with the lines that are free on the tape

@@ -2,17 +2,17 @@
 use Rattle.std.specs.Prelude.{◌≡◌, ℕ, ◌+◌, ◌<◌, ◌≤◌, Bool, true, false, List, is_some, None, Ok, Err, vec_items, Result, nat_le}
 use Rattle.terms.specs.Terms.{OrderTerms}
 use Rattle.terms.specs.Identifiers.{lawful_identifier}
-use Rattle.tape.specs.declared.tapes.Tape.{Ghosts as TapeOf}
-use Rattle.directory.specs.declared.directories.Directory.{Ghosts as DirectoryOf}
+use Rattle.tape.specs.declared.tape.Tape.{Ghosts as TapeOf}
+use Rattle.directory.specs.declared.directory.Directory.{Ghosts as DirectoryOf}
 use Rattle.rules.specs.declared.refusal.Refusal.{Refusal}
 use Rattle.rules.specs.declared.refusal.Refusal.TheVariants.{NameTaken, BookFull, EntriesSpent}
 use Rattle.rules.specs.Limits.{most_entries, last_moment}
 use Rattle.rules.specs.Market.{Book}
 use Rattle.rules.specs.Answers.{entered}
 use Rattle.rules.specs.Calls.{Outcome, named, no_place, swept_in}
-use Rattle.orders.specs.declared.row.Row.{Row}
-use Rattle.orders.specs.Rows.{row_order}
-use Rattle.orders.specs.Changes.{AllRest}
+use Rattle.market.specs.declared.row.Row.{Row}
+use Rattle.market.specs.Rows.{row_order}
+use Rattle.market.specs.Changes.{AllRest}
 use Rattle.market.specs.Markets.{market_of, HasRoom, CanJoin}
 use Rattle.book.specs.declared.engine.Engine.{Engine}
 use Rattle.book.specs.Tied.{row_name}

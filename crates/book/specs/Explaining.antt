@@ -4,7 +4,7 @@ use Rattle.rules.specs.Market.{Order, Book, ranked_in, reach_in}
 use Rattle.rules.specs.Calls.{named}
 use Rattle.rules.specs.Questions.{why}
 use Rattle.rules.specs.Laws.{Reason}
-use Rattle.questions.specs.Meant.{why_as}
+use Rattle.market.specs.Meant.{why_as}
 use Rattle.book.specs.declared.explanation.Explanation.{Explanation}
 
 -- the order that the identifier names, its two prices, and a reason that holds of it

@@ -2,9 +2,9 @@
 use Rattle.std.specs.Prelude.{ℕ, List, [], ◌∷◌, Option}
 use Rattle.std.specs.Coded.{×_prop, Unit-prop}
 use Rattle.std.proofs.Props.{props}
-use Rattle.tape.specs.declared.tapes.Tape.{Ghosts as TapeOf}
-use Rattle.directory.specs.declared.directories.Directory.{Ghosts as DirectoryOf}
-use Rattle.orders.specs.declared.row.Row.{Row}
+use Rattle.tape.specs.declared.tape.Tape.{Ghosts as TapeOf}
+use Rattle.directory.specs.declared.directory.Directory.{Ghosts as DirectoryOf}
+use Rattle.market.specs.declared.row.Row.{Row}
 use Rattle.book.specs.declared.engine.Engine.{Engine}
 use Rattle.book.specs.Tied.{Apart, Tied}
 use Rattle.book.specs.Books.{Sound}

@@ -1,11 +1,11 @@
 -- A new book, and why there is none.
 use Rattle.std.specs.Prelude.{◌≡◌, ℕ, []}
-use Rattle.tape.specs.declared.tapes.Tape.{Ghosts as TapeOf}
+use Rattle.tape.specs.declared.tape.Tape.{Ghosts as TapeOf}
 use Rattle.rules.specs.Runs.{opened}
 use Rattle.book.specs.declared.engine.Engine.{Engine}
-use Rattle.book.specs.declared.refusals.OpenRefusal.{OpenRefusal}
-use Rattle.book.specs.declared.refusals.OpenRefusal.TheVariants.{TapeUsed, NoMemory}
-use Rattle.book.specs.declared.refusals.NotOpened.{NotOpened}
+use Rattle.book.specs.declared.refusal.OpenRefusal.{OpenRefusal}
+use Rattle.book.specs.declared.refusal.OpenRefusal.TheVariants.{TapeUsed, NoMemory}
+use Rattle.book.specs.declared.refusal.NotOpened.{NotOpened}
 use Rattle.book.specs.Books.{book_of}
 
 -- a book on an empty tape, as the rule book opens it

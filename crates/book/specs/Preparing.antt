@@ -1,8 +1,8 @@
 -- What a book is opened on.
 use Rattle.std.specs.Prelude.{◌≡◌}
-use Rattle.tape.specs.declared.tapes.Tape.{Ghosts as TapeOf}
-use Rattle.directory.specs.declared.directories.Directory.{Ghosts as DirectoryOf}
-use Rattle.terms.specs.declared.lawful.Quote.{Quote}
+use Rattle.tape.specs.declared.tape.Tape.{Ghosts as TapeOf}
+use Rattle.directory.specs.declared.directory.Directory.{Ghosts as DirectoryOf}
+use Rattle.terms.specs.declared.quote.Quote.{Quote}
 use Rattle.book.specs.declared.prepared.Prepared.{Prepared}
 
 -- a book can be opened at the quote, on this directory and this tape, which are as they were

@@ -1,8 +1,8 @@
 -- What ties a directory to the rows: it has the pairs of identifier and entry number of the rows, and no others.
 use Rattle.std.specs.Prelude.{◌≡◌, ℕ, true, false, List, [], ◌∷◌, length, Some, None, Option}
 use Rattle.rules.specs.Calls.{same_bytes}
-use Rattle.orders.specs.declared.row.Row.{Row}
-use Rattle.orders.specs.Rows.{identifier_bytes}
+use Rattle.market.specs.declared.row.Row.{Row}
+use Rattle.market.specs.Rows.{identifier_bytes}
 
 abbrev pub row_name : Row → List ℕ
 row_name r = identifier_bytes r.identifier

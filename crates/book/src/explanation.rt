@@ -1,5 +1,6 @@
 // What is told of an order's prices.
-use questions::told::Why;
+
+use market::Why;
 
 // Both prices in half-cents: the one at which the order stands, and the one up to which it trades.
 #[derive(Clone, Copy, PartialEq, Eq, Debug, Drop)]

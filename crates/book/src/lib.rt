@@ -1,18 +1,21 @@
-// The book that runs. Times are microseconds since midnight.
+// The book that runs, and whole days: a list of calls on one book, and one list against another.
 #![tactic(auto)]
 
-pub mod asking;
-pub mod cancelling;
-mod clock;
-pub mod closing;
+mod book;
+mod both_runs;
+mod call;
 mod engine;
-mod entering;
-pub mod entries;
-pub mod explanation;
-pub mod opening;
-pub mod prepared;
-pub mod quoting;
-pub mod refusals;
-pub mod state;
-pub mod ticking;
-mod tidying;
+mod explanation;
+mod played;
+mod prepared;
+mod refusal;
+mod stage;
+
+pub use book::Book;
+pub use both_runs::{NotRerun, rerun};
+pub use call::{Answer, Call};
+pub use engine::Engine;
+pub use explanation::Explanation;
+pub use played::{Played, carry_out, play, replay};
+pub use prepared::Prepared;
+pub use refusal::{NotOpened, OpenRefusal, Rejected};

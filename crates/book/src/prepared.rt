@@ -1,11 +1,17 @@
 // What a book is opened on.
-ghost use Rattle.std.specs.Prelude.{◌≡◌, []};
+ghost use Rattle.std.specs.Prelude.{MatchResult, [], ◌≡◌};
+ghost use Rattle.book.specs.Opening.{Because};
+ghost use Rattle.market.specs.Seen.{seen};
 ghost use Rattle.rules.specs.Runs.{opened};
-ghost use Rattle.orders.specs.Seen.{seen};
 
-use directory::directories::Directory;
-use orders::table::Table;
-use tape::tapes::Tape;
+use crate::book::Book;
+use crate::engine::Engine;
+use crate::refusal::{NotOpened, OpenRefusal};
+use directory::Directory;
+use market::{Market, Table};
+use std::alloc::Global;
+use tape::Tape;
+use terms::Quote;
 
 // A directory and an empty tape, both as they were handed over, and all memory that the book will ever use.
 #[derive(Drop)]
@@ -16,4 +22,75 @@ pub struct Prepared<D: Directory, T: Tape> {
     ghost unused: { T.Tape.lines tape ≡ [] },
     ghost no_rows: { table.rows.items ≡ [] },
     ghost fresh: { seen table ≡ (opened table.quote.bid table.quote.offer).market },
+}
+
+// The table of a new book, if the tape is empty.
+fn table_for<T: Tape>(heap: Global, quote: Quote, tape: &T) -> Result<Table, OpenRefusal>
+    ensures { MatchResult result
+        (λ t. (T.Tape.lines tape.now ≡ []) × (t.rows.items ≡ []) × (t.quote ≡ quote) × (seen t ≡ (opened quote.bid quote.offer).market))
+        (λ why. Because T.Tape tape.now why) }
+{
+    if tape.read(1).is_some() {
+        return Err(OpenRefusal::TapeUsed);
+    }
+    Ok(Table::open(heap, quote)?)
+}
+
+impl<D: Directory, T: Tape> Prepared<D, T> {
+    ghost use Rattle.book.specs.Opening.{HandedBack, New};
+    ghost use Rattle.book.specs.Preparing.{PreparedOn};
+
+    // All memory is had here. A tape that has lines is refused before memory is asked for.
+    pub fn new(
+        heap: Global,
+        quote: Quote,
+        directory: D,
+        tape: T,
+    ) -> Result<Prepared<D, T>, NotOpened<D, T>>
+        ensures { MatchResult result
+            (λ p. PreparedOn quote directory tape p)
+            (λ e. HandedBack T.Tape directory tape e) }
+    {
+        match table_for(heap, quote, &tape) {
+            Ok(table) => Ok(Prepared {
+                directory,
+                tape,
+                table,
+            }),
+            Err(why) => Err(NotOpened {
+                directory,
+                tape,
+                why,
+            }),
+        }
+    }
+
+    // Directory and tape as they were, where no book is to be opened after all.
+    pub fn hand_back(self) -> (D, T)
+        ensures directory { result.0 ≡ self.directory }
+        ensures tape { result.1 ≡ self.tape }
+    {
+        (self.directory, self.tape)
+    }
+
+    // The directory is emptied. Everything is had, so that this cannot fail.
+    pub fn open(self) -> Book<D, T>
+        ensures { New T.Tape self.table.quote.bid self.table.quote.offer self.tape result.engine }
+    {
+        let Prepared {
+            mut directory,
+            tape,
+            table,
+        } = self;
+        directory.clear();
+        let room = tape.free_lines();
+        let engine = Engine {
+            directory,
+            market: Market { table, tape },
+            clock: 0,
+            entries: 0,
+            room,
+        };
+        Book { engine }
+    }
 }

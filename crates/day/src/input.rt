@@ -1,6 +1,6 @@
 // The lines of standard input, with their numbers.
 use anyhow::Context;
-use days::commands::{BadLine, Command, Expected, read_command};
+use day_file::{BadLine, Command, Expected, read_command};
 use std::io;
 use std::io::{BufRead, BufReader, Stdin};
 

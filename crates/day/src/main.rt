@@ -15,11 +15,10 @@ use crate::input::Input;
 use crate::options::Options;
 use crate::request::{HELP, Request};
 use crate::tapes::serve_on;
-use days::VERSION;
-use days::commands::{Command, Expected};
+use day_file::{Command, Expected, VERSION};
 use std::process::ExitCode;
 use std::{env, io};
-use terms::lawful::Quote;
+use terms::Quote;
 
 // The first command must open the book.
 fn answer(rt: &HostRuntime, options: Options) -> anyhow::Result<()> {

@@ -2,11 +2,10 @@
 use crate::files::replace;
 use crate::input::InputLine;
 use anyhow::Context;
-use days::desk::Desk;
-use days::telling::Output;
-use directory::directories::Directory;
+use day_file::{Desk, Output};
+use directory::Directory;
 use std::fs;
-use tape::tapes::Tape;
+use tape::Tape;
 
 pub fn load<D: Directory, T: Tape>(
     rt: &HostRuntime,

@@ -2,15 +2,13 @@
 use crate::input::{Input, InputLine};
 use crate::registers::{load, write};
 use anyhow::Context;
-use days::commands::{Command, Expected};
-use days::desk::Desk;
-use days::telling::Output;
-use directory::directories::Directory;
+use day_file::{Command, Desk, Expected, Output};
+use directory::Directory;
 use std::io;
 use std::io::Write;
 use std::ops::ControlFlow;
-use tape::tapes::Tape;
-use terms::lawful::Quote;
+use tape::Tape;
+use terms::Quote;
 
 // So much is gathered before it is printed, where more input is at hand.
 const GATHERED: usize = 65536;

@@ -3,14 +3,9 @@ use crate::input::Input;
 use crate::options::{DirectoryMake, Options, TapeMake};
 use crate::serving::serve;
 use anyhow::Context;
-use directory::directories::Directory;
-use directory::rows::RowDirectory;
-use directory::table::HashedDirectory;
-use tape::bytes::ByteTape;
-use tape::layout::LINE_BYTES;
-use tape::line::Line;
-use tape::records::RecordTape;
-use terms::lawful::Quote;
+use directory::{Directory, HashedDirectory, RowDirectory};
+use tape::{ByteTape, LINE_BYTES, Line, RecordTape};
+use terms::Quote;
 
 fn serve_on_tape<D: Directory + Drop>(
     rt: &HostRuntime,

@@ -3,9 +3,9 @@
 use Rattle.std.proofs.Common.{◌≡◌, ℕ, true, false, cond, ltb, List, ◌∷◌, ◌++◌, is_some, Some, None, Option, sym, refl, ap, ◌∙◌}
 use Rattle.std.proofs.lemmas.Bool.{both_ways}
 use Rattle.terms.specs.Identifiers.{lawful_identifier}
-use Rattle.directory.specs.declared.entries.Entry.{Entry}
+use Rattle.directory.specs.declared.entry.Entry.{Entry}
 use Rattle.directory.specs.Entries.{entry_id, number_in, distinct}
-use Rattle.directory.specs.declared.directories.PutRefusal.TheVariants.{Unlawful, Held, Full}
+use Rattle.directory.specs.declared.directory.PutRefusal.TheVariants.{Unlawful, Held, Full}
 use Rattle.directory.specs.Pairs.{put_refusal}
 use Rattle.directory.proofs.Distinct.{number_between, distinct_without, same_bytes, bytes_apart}
 

@@ -6,7 +6,7 @@ use Rattle.std.proofs.Common.{◌≡◌, ℕ, ◌+◌, ◌%◌, ◌<◌, ◌≤�
 use lib.Seq.{set_comm}
 use Rattle.std.specs.Str.{bytes_eq}
 use Rattle.std.proofs.lemmas.Bool.{both_ways, cases_eq, cases_order, cases_lt}
-use Rattle.directory.specs.declared.entries.Entry.{Entry}
+use Rattle.directory.specs.declared.entry.Entry.{Entry}
 use Rattle.directory.specs.Entries.{entry_id, number_in, distinct}
 use Rattle.directory.specs.Table.{Places, entries_in, taken, home_at, home_place, steps, Gapped, Closed}
 use Rattle.directory.proofs.Ring.{steps_below, steps_self, steps_to, steps_one, steps_via, steps_past}

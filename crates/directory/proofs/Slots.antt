@@ -6,7 +6,7 @@ use Rattle.std.proofs.Common.{◌≡◌, ℕ, zero, suc, ◌+◌, ◌<◌, ◌�
 use lib.Seq.{set_split}
 use Rattle.std.specs.Str.{bytes_eq}
 use Rattle.std.proofs.lemmas.Bool.{both_ways, cond-false}
-use Rattle.directory.specs.declared.entries.Entry.{Entry}
+use Rattle.directory.specs.declared.entry.Entry.{Entry}
 use Rattle.directory.specs.Entries.{entry_id, number_in}
 use Rattle.directory.specs.Table.{Places, entries_in, taken, home_at, home_place}
 use Rattle.directory.proofs.Distinct.{bytes_apart}

@@ -2,7 +2,7 @@
 use Rattle.std.specs.Prelude.{◌≡◌, ℕ, ◌<◌, Bool, true, cond, not, ◌&&◌, List, [], ◌∷◌, length, is_some, Some, None, Option, slice_index_or}
 use Rattle.std.specs.Str.{bytes_eq}
 use Rattle.terms.specs.Naming.{identifier_bytes}
-use Rattle.directory.specs.declared.entries.Entry.{Entry}
+use Rattle.directory.specs.declared.entry.Entry.{Entry}
 
 abbrev pub entry_id : Entry → List ℕ
 entry_id e = identifier_bytes e.id

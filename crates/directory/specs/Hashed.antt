@@ -1,6 +1,6 @@
 -- What a hashed directory holds.
 use Rattle.std.specs.Prelude.{ℕ, List, vec_items, Option}
-use Rattle.directory.specs.declared.table.HashedDirectory.{HashedDirectory}
+use Rattle.directory.specs.declared.hashed_directory.HashedDirectory.{HashedDirectory}
 use Rattle.directory.specs.Entries.{number_in}
 use Rattle.directory.specs.Table.{entries_in}
 

@@ -2,8 +2,8 @@
 -- `was` and `had` are the numbers and the count of pairs before the call, `is` and `has` those after it.
 use Rattle.std.specs.Prelude.{◌≡◌, ℕ, ◌+◌, ◌<◌, true, false, List, Some, None, Option, ◌≢◌, nat_lt}
 use Rattle.terms.specs.Identifiers.{lawful_identifier}
-use Rattle.directory.specs.declared.directories.PutRefusal.{PutRefusal}
-use Rattle.directory.specs.declared.directories.PutRefusal.TheVariants.{Unlawful, Held, Full}
+use Rattle.directory.specs.declared.directory.PutRefusal.{PutRefusal}
+use Rattle.directory.specs.declared.directory.PutRefusal.TheVariants.{Unlawful, Held, Full}
 
 abbrev pub Numbers : Type 0
 Numbers = List ℕ → Option ℕ

@@ -1,9 +1,9 @@
 -- A table of 128 places in a ring. A pair's home is a place that its identifier gives; it stands there or, where that was
 -- taken, at the first free place after it.
 use Rattle.std.specs.Prelude.{◌≡◌, ℕ, ◌+◌, ◌-◌, ◌*◌, ◌%◌, ◌<◌, ◌≤◌, Bool, true, false, List, [], ◌∷◌, length, get_or, is_some, Some, None, fold, Option, ◌≢◌, slice_index_or}
-use Rattle.directory.specs.declared.entries.Entry.{Entry}
-use Rattle.directory.specs.declared.spots.Spot.{Spot}
-use Rattle.directory.specs.declared.spots.Spot.TheVariants.{Taken, Free}
+use Rattle.directory.specs.declared.entry.Entry.{Entry}
+use Rattle.directory.specs.declared.hashed_directory.Spot.{Spot}
+use Rattle.directory.specs.declared.hashed_directory.Spot.TheVariants.{Taken, Free}
 use Rattle.directory.specs.Entries.{entry_id, number_in, distinct}
 
 abbrev pub Places : Type 0

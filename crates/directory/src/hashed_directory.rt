@@ -1,18 +1,42 @@
-ghost use Rattle.std.specs.Prelude.{◌≡◌, [], IfOk, vec_len};
-ghost use Rattle.directory.specs.Table.{entries_in, Looked};
-ghost use Rattle.directory.specs.Hashed.{hashed_number, hashed_count};
-ghost use Rattle.directory.specs.Pairs.{Emptied};
+ghost use Rattle.std.specs.Prelude.{length, true, vec_len, ◌≡◌, ◌≤◌};
+ghost use Rattle.directory.specs.Entries.{distinct};
+ghost use Rattle.directory.specs.Table.{Chained, entries_in};
 
-use crate::directories::{CAPACITY, Directory, PutRefusal};
-use crate::entries::Entry;
-use crate::identifiers::lawful_identifier;
-use crate::matching::{entry_of, is_of};
+use crate::directory::{CAPACITY, Directory, PutRefusal};
+use crate::entry::{Entry, entry_of, is_of};
 use crate::probing::{close_gap, home_place};
-use crate::spots::Spot;
-use crate::table::{HashedDirectory, PLACES};
 use std::alloc::{AllocError, Global};
+use terms::lawful_identifier;
+
+pub(crate) const PLACES: usize = 128;
+
+// What a look for an identifier comes to: the place and the number of its pair, or the free place where the look ends.
+#[derive(Clone, Copy)]
+pub(crate) enum Spot {
+    Taken { place: usize, number: u32 },
+    Free { place: usize },
+}
+
+// A directory in a hashed table: open addressing by linear probing, with backward shift when a pair is removed.
+// The table has twice the places that can be taken, and is had at making. Not a map,
+// since no call may allocate.
+#[derive(Drop)]
+pub struct HashedDirectory {
+    pub(crate) places: Vec<Option<Entry>>,
+    pub(crate) held: usize,
+    ghost whole: { vec_len places ≡ 128 },
+    ghost counted: { held ≡ length (entries_in places.items) },
+    ghost few: { held ≤ 64 },
+    ghost apart: { distinct (entries_in places.items) ≡ true },
+    ghost chained: { Chained places.items },
+}
 
 impl HashedDirectory {
+    ghost use Rattle.std.specs.Prelude.{IfOk};
+    ghost use Rattle.directory.specs.Hashed.{hashed_count, hashed_number};
+    ghost use Rattle.directory.specs.Pairs.{Emptied};
+    ghost use Rattle.directory.specs.Table.{Looked};
+
     // A directory with no pair. Fails only for want of memory.
     pub fn new(heap: Global) -> Result<HashedDirectory, AllocError>
         ensures { IfOk result (λ d. Emptied (hashed_number d) (hashed_count d)) }
@@ -45,6 +69,8 @@ impl HashedDirectory {
 }
 
 impl Directory for HashedDirectory {
+    ghost use Rattle.directory.specs.Hashed.{hashed_count, hashed_number};
+
     ghost number = { λ d. hashed_number d };
 
     ghost count = { λ d. hashed_count d };

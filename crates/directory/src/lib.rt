@@ -1,13 +1,14 @@
 // Whole identifier to entry number.
 #![tactic(auto)]
 
-pub mod directories;
-pub mod entries;
-pub mod hashed_directory;
-pub mod identifiers;
-pub mod matching;
-pub mod probing;
-pub mod row_directory;
-pub mod rows;
-mod spots;
-pub mod table;
+mod directory;
+mod entry;
+mod hashed_directory;
+mod probing;
+mod row_directory;
+
+pub use directory::{CAPACITY, Directory, PutRefusal};
+pub use entry::Entry;
+pub use hashed_directory::HashedDirectory;
+pub use probing::home_place;
+pub use row_directory::RowDirectory;

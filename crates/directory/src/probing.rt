@@ -1,9 +1,9 @@
-ghost use Rattle.std.specs.Prelude.{◌≡◌, ◌<◌};
+ghost use Rattle.std.specs.Prelude.{◌<◌, ◌≡◌};
 ghost use Rattle.directory.specs.Entries.{entry_id};
-ghost use Rattle.directory.specs.Table.{home_place as home_place_of, steps, Gapped, Closed};
+ghost use Rattle.directory.specs.Table.{Closed, Gapped, home_place as home_place_of, steps};
 
-use crate::entries::Entry;
-use crate::table::PLACES;
+use crate::entry::Entry;
+use crate::hashed_directory::PLACES;
 
 // The place where a look for an identifier begins, from 0 to 127. Every byte counts.
 pub fn home_place(id: &[u8]) -> usize

@@ -1,16 +1,28 @@
-ghost use Rattle.std.specs.Prelude.{◌≡◌, IfOk, position};
-ghost use Rattle.std.specs.Str.{bytes_eq};
-ghost use Rattle.directory.specs.Entries.{entry_id};
-ghost use Rattle.directory.specs.Rows.{row_number, row_count};
-ghost use Rattle.directory.specs.Pairs.{Emptied};
+ghost use Rattle.std.specs.Prelude.{true, vec_capacity, vec_len, ◌≡◌, ◌≤◌};
+ghost use Rattle.directory.specs.Entries.{distinct};
 
-use crate::directories::{CAPACITY, Directory, PutRefusal};
-use crate::identifiers::lawful_identifier;
-use crate::matching::{entry_of, is_of};
-use crate::rows::RowDirectory;
+use crate::directory::{CAPACITY, Directory, PutRefusal};
+use crate::entry::{Entry, entry_of, is_of};
 use std::alloc::{AllocError, Global};
+use terms::lawful_identifier;
+
+// A directory of rows, one pair each, the newest last; room for 64 is had at making. Not a map, since no call may
+// allocate.
+#[derive(Drop)]
+pub struct RowDirectory {
+    pub(crate) rows: Vec<Entry>,
+    ghost roomy: { 64 ≤ vec_capacity rows },
+    ghost few: { vec_len rows ≤ 64 },
+    ghost apart: { distinct rows.items ≡ true },
+}
 
 impl RowDirectory {
+    ghost use Rattle.std.specs.Prelude.{IfOk, position};
+    ghost use Rattle.std.specs.Str.{bytes_eq};
+    ghost use Rattle.directory.specs.Entries.{entry_id};
+    ghost use Rattle.directory.specs.Pairs.{Emptied};
+    ghost use Rattle.directory.specs.Rows.{row_count, row_number};
+
     // A directory with no pair. Fails only for want of memory.
     pub fn new(heap: Global) -> Result<RowDirectory, AllocError>
         ensures { IfOk result (λ d. Emptied (row_number d) (row_count d)) }
@@ -28,6 +40,8 @@ impl RowDirectory {
 }
 
 impl Directory for RowDirectory {
+    ghost use Rattle.directory.specs.Rows.{row_count, row_number};
+
     ghost number = { λ d. row_number d };
 
     ghost count = { λ d. row_count d };

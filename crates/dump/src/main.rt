@@ -4,8 +4,7 @@
 mod hex;
 
 use anyhow::{Context, ensure};
-use register::listed::Listed;
-use register::reader::Reader;
+use register::{Listed, Reader};
 use std::io::{BufRead, BufReader};
 use std::process::ExitCode;
 use std::{env, io};

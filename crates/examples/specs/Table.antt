@@ -10,7 +10,7 @@ use Rattle.rules.specs.Examples.{Example, told_with_the_rules}
 use Rattle.rules.specs.PriorityRuns.{told_of_priority}
 use Rattle.rules.specs.RefusalRuns.{told_of_refusals}
 use Rattle.register.specs.Examples as read
-use Rattle.writing.specs.Examples as written
+use Rattle.register.specs.WritingExamples as written
 
 -- a run: a book, the room of its tape, and calls
 pub data Question : Type 0 where

@@ -14,8 +14,7 @@ use crate::random::Random;
 use crate::schedule::{compare, fill};
 use crate::tapes::compare_tapes;
 use anyhow::ensure;
-use directory::rows::RowDirectory;
-use directory::table::HashedDirectory;
+use directory::{HashedDirectory, RowDirectory};
 use std::env;
 use std::process::ExitCode;
 

@@ -1,6 +1,6 @@
 // Identifiers for the schedule: short ones, ones that share their first twelve bytes, ones of twenty bytes, ones that have one
 // home in the hashed table, and ones that are not lawful.
-use directory::probing::home_place;
+use directory::home_place;
 use std::alloc::{AllocError, Global};
 
 fn numbered(heap: Global, front: &str, n: u32) -> Result<Vec<u8>, AllocError> {

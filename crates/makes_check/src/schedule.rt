@@ -3,7 +3,7 @@ ghost use Rattle.directory.specs.Pairs.{put_refusal};
 
 use crate::agreement::Agreement;
 use crate::random::Random;
-use directory::directories::{Directory, PutRefusal};
+use directory::{Directory, PutRefusal};
 use std::fmt;
 
 // How often a number was told, and how often none.

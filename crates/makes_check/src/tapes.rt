@@ -1,11 +1,7 @@
 use crate::agreement::Agreement;
 use crate::random::Random;
 use std::fmt;
-use tape::bytes::{ByteTape, write_lines};
-use tape::layout::{LINE_BYTES, line_in};
-use tape::line::{Line, Mark};
-use tape::records::RecordTape;
-use tape::tapes::{Full, Tape};
+use tape::{ByteTape, Full, LINE_BYTES, Line, Mark, RecordTape, Tape, line_in, write_lines};
 
 // Lines that each tape has room for.
 const LINES: usize = 40;

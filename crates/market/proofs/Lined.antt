@@ -1,17 +1,17 @@
 -- A sweep, line by line. Cite lines_go for a line, lines_gone and lines_alone where it ends, line_room for the tape.
 use Rattle.std.proofs.Common.{◌≡◌, ℕ, zero, suc, ◌+◌, ◌≤◌, Bool, true, false, ◌&&◌, List, [], ◌∷◌, length, Some, None, fold, Option, sym, refl, ap, ◌∙◌, arith, length-append}
 use Rattle.terms.specs.Sides.{opposite, same_side, meets}
-use Rattle.terms.specs.declared.kinds.Side.{Side}
-use Rattle.terms.specs.declared.kinds.Side.TheVariants.{Buy, Sell}
+use Rattle.terms.specs.declared.side.Side.{Side}
+use Rattle.terms.specs.declared.side.Side.TheVariants.{Buy, Sell}
 use Rattle.tape.specs.declared.line.Line.{Line}
 use Rattle.rules.specs.Market.{Order, Market, side_of, ranked_in, reach_in, resting, lower, with_orders}
 use Rattle.rules.specs.Priority.{ahead, better_of, next_partner, partner_for, line_price}
 use Rattle.rules.specs.Sweep.{depletes, traded, after_trade, recorded, trade, lines, sweep}
 use Rattle.rules.proofs.Cases.{option_none, option_some}
 use Rattle.rules.proofs.Lasting.{lines_keep}
-use Rattle.orders.specs.Seen.{market_with, seen}
-use Rattle.orders.specs.declared.table.Table.{Table}
-use Rattle.orders.proofs.Still.{reach_still}
+use Rattle.market.specs.Seen.{market_with, seen}
+use Rattle.market.specs.declared.table.Table.{Table}
+use Rattle.market.proofs.Still.{reach_still}
 
 -- partners do not depend on the tape
 module _ (ls : List Line) (b : Table) where

@@ -1,14 +1,14 @@
 -- The end of a period, and the settling of all that are due, from the steps of the code. Cite period_ended for one end, and
 -- settle_ends, ends_longer and end_free for the loop; rules' Settle has the turns.
 use Rattle.std.proofs.Common.{◌≡◌, ℕ, zero, suc, ◌+◌, ◌≤◌, length, None, sym, refl, ap, ◌∙◌, arith}
-use Rattle.terms.specs.declared.kinds.Side.{Side}
-use Rattle.terms.specs.declared.kinds.Side.TheVariants.{Buy, Sell}
+use Rattle.terms.specs.declared.side.Side.{Side}
+use Rattle.terms.specs.declared.side.Side.TheVariants.{Buy, Sell}
 use Rattle.rules.specs.Market.{Market, with_end, with_quote, those}
 use Rattle.rules.specs.Clock.{protected_on, end_period, end_periods, settle}
 use Rattle.rules.specs.Sweep.{sweep_each}
 use Rattle.rules.proofs.Lasting.{ends_keep}
 use Rattle.rules.specs.Calls.{requoted}
-use Rattle.market.specs.declared.round.Round.TheVariants.{PeriodEnded, QuoteChanged}
+use Rattle.market.specs.declared.sweep.Round.TheVariants.{PeriodEnded, QuoteChanged}
 use Rattle.market.specs.Rounds.{woken}
 use Rattle.market.proofs.EachSwept.{each_longer}
 

@@ -9,11 +9,11 @@ use Rattle.rules.specs.Market.{Order, Market, resting, those}
 use Rattle.rules.specs.Calls.{pegged}
 use Rattle.rules.specs.Sweep.{sweep, sweep_each}
 use Rattle.rules.proofs.Cases.{if_both, if_true, if_false}
-use Rattle.orders.specs.declared.row.Row.{Row}
-use Rattle.orders.specs.Rows.{row_order, rising, orders_in}
-use Rattle.orders.specs.Changes.{SameButShares}
-use Rattle.market.specs.declared.round.Round.{Round}
-use Rattle.market.specs.declared.round.Round.TheVariants.{PeriodEnded, QuoteChanged}
+use Rattle.market.specs.declared.row.Row.{Row}
+use Rattle.market.specs.Rows.{row_order, rising, orders_in}
+use Rattle.market.specs.Changes.{SameButShares}
+use Rattle.market.specs.declared.sweep.Round.{Round}
+use Rattle.market.specs.declared.sweep.Round.TheVariants.{PeriodEnded, QuoteChanged}
 use Rattle.market.specs.Rounds.{woken, swept_if}
 use Rattle.market.proofs.EachSwept.{round_passes, round_sweeps, absent_after, each_longer}
 

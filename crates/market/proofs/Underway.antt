@@ -1,11 +1,11 @@
 -- A loop over a market that is on its way: what is still to do gives the whole. Cite: Underway as the loop's invariant, arrived
 -- where the loop ends.
 use Rattle.std.proofs.Common.{◌≡◌, ℕ, ◌≤◌, length, vec_items, sym, ◌∙◌, subst}
-use Rattle.tape.specs.declared.tapes.Tape.{Ghosts as TapeOf}
+use Rattle.tape.specs.declared.tape.Tape.{Ghosts as TapeOf}
 use Rattle.rules.specs.Limits.{last_moment}
 use Rattle.rules.specs.Market.{Market}
-use Rattle.orders.specs.Changes.{SameButShares}
-use Rattle.market.specs.declared.state.Market.{Market as TableAndTape}
+use Rattle.market.specs.Changes.{SameButShares}
+use Rattle.market.specs.declared.market.Market.{Market as TableAndTape}
 use Rattle.market.specs.Markets.{market_of, capacity_of, HasRoom, Follows}
 
 pub record Underway {T : Type 0} (t : TapeOf T) (old now : TableAndTape T) (time : ℕ) (whole : Market) (So : Type 0) : Type 0 where

@@ -1,2 +1,9 @@
+pub mod Changes
+pub mod Displays
 pub mod Markets
+pub mod Meant
+pub mod Ranks
 pub mod Rounds
+pub mod Rows
+pub mod Seen
+pub mod Trading

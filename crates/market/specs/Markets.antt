@@ -1,12 +1,12 @@
 -- The order table with its tape, as the rule book's market.
 use Rattle.std.specs.Prelude.{◌≡◌, ℕ, ◌+◌, ◌<◌, ◌≤◌, List, length, vec_items}
-use Rattle.tape.specs.declared.tapes.Tape.{Ghosts as TapeOf}
+use Rattle.tape.specs.declared.tape.Tape.{Ghosts as TapeOf}
 use Rattle.rules.specs.Limits.{last_moment}
 use Rattle.rules.specs.Market.{Market}
-use Rattle.orders.specs.declared.row.Row.{Row}
-use Rattle.orders.specs.Changes.{SameButShares, newest_number}
-use Rattle.orders.specs.Seen.{market_with}
-use Rattle.market.specs.declared.state.Market.{Market as TableAndTape}
+use Rattle.market.specs.declared.row.Row.{Row}
+use Rattle.market.specs.Changes.{SameButShares, newest_number}
+use Rattle.market.specs.Seen.{market_with}
+use Rattle.market.specs.declared.market.Market.{Market as TableAndTape}
 
 abbrev pub market_of : {T : Type 0} → TapeOf T → TableAndTape T → Market
 market_of t k = market_with (t.lines k.tape) k.table

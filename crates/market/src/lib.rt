@@ -1,10 +1,23 @@
-// The market: sweeps and protection periods, over the order table and any tape. Times are microseconds since midnight.
+// The order table with a tape: who trades next, sweeps, protection periods, and what is told of them.
 #![tactic(auto)]
 
-pub mod entering;
-pub mod quoting;
-pub mod round;
-pub mod rounds;
-pub mod settling;
-pub mod state;
-pub mod sweeps;
+mod clock;
+mod display;
+mod explanation;
+mod figures;
+mod market;
+mod priority;
+mod ranking;
+mod row;
+mod sweep;
+mod table;
+mod trade;
+
+pub use explanation::{Why, explain};
+pub use figures::{Figures, Tally, figures_of};
+pub use market::Market;
+pub use ranking::{Standing, ask};
+pub use row::Row;
+pub use sweep::Round;
+pub use table::{NotJoined, Table};
+pub use trade::mark_of;

@@ -9,15 +9,14 @@ use crate::stored::REGISTER;
 use crate::tally::Tally;
 use crate::trial::try_register;
 use anyhow::{Context, ensure};
-use directory::rows::RowDirectory;
-use loading::slips::Slip;
-use roll::log::Roll;
+use book_register::Slip;
+use directory::RowDirectory;
+use roll::Roll;
 use std::alloc::Global;
 use std::env;
 use std::process::ExitCode;
-use tape::line::Line;
-use tape::records::RecordTape;
-use terms::lawful::Quote;
+use tape::{Line, RecordTape};
+use terms::Quote;
 
 // The exit status for arguments, of which it takes none, and where there is no memory.
 const FAILED: u8 = 2;

@@ -1,6 +1,5 @@
 // What became of many loads.
-use loading::faults::LoadFault;
-use loading::slips::{Loaded, Slip};
+use book_register::{LoadFault, Loaded, Slip};
 use std::fmt;
 
 // `stops` and `slips` count by the fault's number.

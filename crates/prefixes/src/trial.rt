@@ -1,14 +1,13 @@
 // One load into a new book.
 use crate::tally::Tally;
 use anyhow::Context;
-use book::state::Book;
-use directory::directories::Directory;
-use loading::load::load;
-use loading::slips::Slip;
-use roll::log::Roll;
+use book::Book;
+use book_register::{Slip, load_register};
+use directory::Directory;
+use roll::Roll;
 use std::alloc::Global;
-use tape::tapes::Tape;
-use terms::lawful::Quote;
+use tape::Tape;
+use terms::Quote;
 
 // The answer and the slips are counted.
 pub(crate) fn try_register<D: Directory + Drop, T: Tape + Drop>(
@@ -23,7 +22,7 @@ pub(crate) fn try_register<D: Directory + Drop, T: Tape + Drop>(
     let mut book = Book::open(heap, quote, directory, tape)
         .ok()
         .context("no memory")?;
-    tally.count_load(load(&mut book, 0, register, slips));
+    tally.count_load(load_register(&mut book, 0, register, slips));
     for slip in slips.as_slice() {
         tally.count_slip(*slip);
     }

@@ -1,6 +1,6 @@
 // An example, as its file has it.
 use crate::call::Call;
-use terms::lawful::Quote;
+use terms::Quote;
 
 // `says` is what is published of it, `differs` what our rules give in its place.
 #[derive(Drop)]

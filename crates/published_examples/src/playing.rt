@@ -2,15 +2,10 @@
 use crate::call::Call;
 use crate::example::Example;
 use anyhow::{Context, bail};
-use days::commands::{BadLine, Command, read_command};
-use days::desk::Desk;
-use days::telling::Output;
-use directory::directories::Directory;
-use directory::table::HashedDirectory;
+use day_file::{BadLine, Command, Desk, Output, read_command};
+use directory::{Directory, HashedDirectory};
 use std::alloc::Global;
-use tape::bytes::ByteTape;
-use tape::layout::LINE_BYTES;
-use tape::tapes::Tape;
+use tape::{ByteTape, LINE_BYTES, Tape};
 
 // How many lines the tape has room for.
 const LINES: usize = 64;

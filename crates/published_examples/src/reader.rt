@@ -5,7 +5,7 @@ use crate::call::Call;
 use crate::example::Example;
 use anyhow::{Context, anyhow};
 use std::alloc::{AllocError, Global};
-use terms::lawful::Quote;
+use terms::Quote;
 
 // What is left of the file, and the number of its next line. Each line ends with a line feed.
 #[derive(Clone, Copy, Drop)]

@@ -2,7 +2,7 @@
 // what came.
 use crate::call::Call;
 use crate::example::Example;
-use days::telling::Output;
+use day_file::Output;
 use std::io;
 
 pub const LEGEND: &str =

@@ -4,7 +4,7 @@ use Rattle.std.proofs.Common.{◌≡◌, ℕ, suc, ◌+◌, ◌-◌, ◌*◌, �
 use native.Mathlib.Nat.{sub_self}
 use Rattle.std.proofs.lemmas.Bool.{leb-true}
 use Rattle.std.proofs.lemmas.List.{length-drop, drop-drop}
-use Rattle.register.specs.declared.faults.Fault.{Fault}
+use Rattle.register.specs.declared.fault.Fault.{Fault}
 use Rattle.register.specs.Layout.{Field, layout, ticket_layout, identifier_field, short_name_field, blank}
 use Rattle.register.specs.Tails.{Tail, StandsAt}
 use Rattle.register.specs.Reading.{Taken, Cursor, place_in, take_field, read_tagged, read_field, read_fields, read_order}

@@ -1,15 +1,15 @@
 -- Worked examples, as one table: a question to the definitions, and its answer. The quote is 1000 by 1001.
 use Rattle.std.specs.Prelude.{◌≡◌, ℕ, true, false, List, [], ◌∷◌, map, length, replicate, ℤ, pos, negsuc, Some, None, Ok, Err, codes, Option, Result}
-use Rattle.terms.specs.declared.kinds.Side.TheVariants.{Buy, Sell}
-use Rattle.terms.specs.declared.kinds.Kind.TheVariants.{HiddenMdo}
-use Rattle.terms.specs.declared.kinds.TimeInForce.TheVariants.{Rest}
-use Rattle.terms.specs.declared.kinds.Draft.{Draft}
-use Rattle.terms.specs.declared.kinds.Refusal.{Refusal}
+use Rattle.terms.specs.declared.side.Side.TheVariants.{Buy, Sell}
+use Rattle.terms.specs.declared.kind.Kind.TheVariants.{HiddenMdo}
+use Rattle.terms.specs.declared.time_in_force.TimeInForce.TheVariants.{Rest}
+use Rattle.terms.specs.declared.ticket.Draft.{Draft}
+use Rattle.terms.specs.declared.refusal.Refusal.{Refusal}
 use Rattle.terms.specs.Codes.{refusal_number}
 use Rattle.terms.specs.Terms.{OrderTerms, ticket_from}
 use Rattle.terms.specs.Prices.{ranked, reach}
 use Rattle.terms.specs.Identifiers.{identifier_refusal}
-use Rattle.register.specs.declared.faults.Fault.{Fault}
+use Rattle.register.specs.declared.fault.Fault.{Fault}
 use Rattle.register.specs.Layout.{Listed}
 use Rattle.register.specs.Reading.{Cursor, read_next}
 

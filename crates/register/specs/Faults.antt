@@ -1,14 +1,14 @@
 -- Number, layer and place of each fault. Layers: 1 the field, 2 the order, 3 the ticket.
 use Rattle.std.specs.Prelude.{ℕ, List, Ok, Err, codes, Result}
 use Rattle.terms.specs.Shown.{refusal_words}
-use Rattle.terms.specs.declared.kinds.Draft.{Draft}
-use Rattle.terms.specs.declared.lawful.Ticket.{Ticket as LawfulTicket}
+use Rattle.terms.specs.declared.ticket.Draft.{Draft}
+use Rattle.terms.specs.declared.ticket.Ticket.{Ticket as LawfulTicket}
 use Rattle.terms.specs.Terms.{OrderTerms, ticket_from}
 use Rattle.terms.specs.Made.{ticket_terms}
 use Rattle.terms.specs.Codes.{refusal_number}
-use Rattle.register.specs.declared.faults.Fault.{Fault}
+use Rattle.register.specs.declared.fault.Fault.{Fault}
 use Rattle.register.specs.Reports.{told}
-use Rattle.register.specs.declared.faults.Fault.TheVariants.{CutShort, Malformed, Ticket}
+use Rattle.register.specs.declared.fault.Fault.TheVariants.{CutShort, Malformed, Ticket}
 
 abbrev pub fault_number : Fault → ℕ
 fault_number (CutShort place) = 14

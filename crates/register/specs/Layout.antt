@@ -1,7 +1,7 @@
 -- The layout of a register: the fields of an order, each with what it means in both directions.
 use Rattle.std.specs.Prelude.{ℕ, Bool, true, false, not, ◌&&◌, List, [], ◌∷◌, ◌++◌, length, take, replicate, ℤ, pos, Some, None, Option, ◌==◌, slice_index}
 use Rattle.std.specs.Str.{bytes_eq}
-use Rattle.terms.specs.declared.kinds.Draft.{Draft}
+use Rattle.terms.specs.declared.ticket.Draft.{Draft}
 use Rattle.terms.specs.Terms.{is_zero}
 use Rattle.register.specs.Numbers.{number_from, four_bytes, two_bytes, signed_from, signed_bytes}
 

@@ -1,9 +1,9 @@
 -- What the code's structs hold, as plain lists and numbers.
 use Rattle.std.specs.Prelude.{◌≡◌, ℕ, ◌+◌, List, [], length, ℤ, Some, None, Ok, Err, Option, Result}
 use Rattle.std.specs.Borrow.{Bor}
-use Rattle.terms.specs.declared.kinds.Draft.{Draft}
-use Rattle.register.specs.declared.fields.Field.{Field}
-use Rattle.register.specs.declared.faults.Fault.{Fault}
+use Rattle.terms.specs.declared.ticket.Draft.{Draft}
+use Rattle.register.specs.declared.field.Field.{Field}
+use Rattle.register.specs.declared.fault.Fault.{Fault}
 use Rattle.register.specs.declared.listed.Listed.{Listed as ListedOrder}
 use Rattle.register.specs.Layout.{Listed, with_draft, with_offset}
 use Rattle.register.specs.Reading.{Taken, Cursor, place_in}

@@ -1,7 +1,7 @@
 -- Reading a register: what any bytes say, or the first fault in them.
 use Rattle.std.specs.Prelude.{ℕ, ◌+◌, ◌-◌, ◌*◌, Bool, true, false, not, ◌&&◌, List, [], ◌∷◌, length, take, drop, Some, None, Ok, Err, Option, Result, ◌==◌, nat_le}
-use Rattle.register.specs.declared.faults.Fault.{Fault}
-use Rattle.register.specs.declared.faults.Fault.TheVariants.{CutShort, Malformed}
+use Rattle.register.specs.declared.fault.Fault.{Fault}
+use Rattle.register.specs.declared.fault.Fault.TheVariants.{CutShort, Malformed}
 use Rattle.register.specs.Layout.{Listed, Field, layout, blank}
 
 -- a field taken off the front of some bytes

@@ -1,6 +1,6 @@
 -- A fault as people read it, of a register, a writer or a load: number, layer, place, words.
 use Rattle.std.specs.Prelude.{ℕ, List, ◌++◌, codes, decimal}
-use Rattle.register.specs.declared.telling.Report.{Report}
+use Rattle.register.specs.declared.report.Report.{Report}
 
 abbrev pub told : ℕ → ℕ → ℕ → List ℕ → List ℕ
 told number layer place words =

@@ -1,12 +1,19 @@
-// The order register: orders as fields of bytes, one after another.
+// The order register, both ways: its layout, its reader and its writer.
 #![tactic(auto)]
 
-pub mod examples;
-pub mod faults;
-mod fields;
-pub mod listed;
-mod orders;
-pub mod reader;
-pub mod reading;
-mod stages;
-pub mod telling;
+mod begun;
+mod fault;
+mod field;
+mod fill;
+mod listed;
+mod place;
+mod reader;
+mod report;
+mod writer;
+
+pub use fault::Fault;
+pub use fill::{Fill, NoRoom};
+pub use listed::{Listed, Part};
+pub use reader::Reader;
+pub use report::Report;
+pub use writer::Writer;

@@ -2,15 +2,11 @@
 use crate::lists::is_tick;
 use crate::load::Load;
 use crate::verdict::{Alike, Difference, Finding, Silence, Verdict};
-use book::state::Book;
-use directory::directories::Directory;
-use replay::calls::{Answer, Call};
-use replay::runs::Played;
-use rules::refusal::Refusal;
-use rules::{MOST_RESTING, PROTECTION_PERIOD};
+use book::{Answer, Book, Call, Played};
+use directory::Directory;
+use rules::{MOST_RESTING, PROTECTION_PERIOD, Refusal};
 use std::alloc::{AllocError, Global};
-use tape::line::Mark;
-use tape::tapes::Tape;
+use tape::{Mark, Tape};
 
 fn shared_answers(
     heap: Global,

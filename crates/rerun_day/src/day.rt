@@ -2,12 +2,12 @@
 // that is refused. A register that is loaded stands as the entries that it makes.
 use crate::load::Load;
 use anyhow::Context;
-use days::commands::{BadLine, Command, Expected, read_command};
-use register::reader::Reader;
-use replay::calls::Call;
+use book::Call;
+use day_file::{BadLine, Command, Expected, read_command};
+use register::Reader;
 use std::alloc::{AllocError, Global};
 use std::fs;
-use terms::lawful::{Quote, Ticket};
+use terms::{Quote, Ticket};
 
 #[derive(Drop)]
 pub struct Day {

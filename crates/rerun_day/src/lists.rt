@@ -1,5 +1,5 @@
 // Other lists with the same calls but for ticks.
-use replay::calls::Call;
+use book::Call;
 use rules::LAST_MOMENT;
 use std::alloc::{AllocError, Global};
 

@@ -1,6 +1,6 @@
 // A load of the day.
-use days::registers::SLIP_PLACES;
-use replay::calls::Answer;
+use book::Answer;
+use day_file::SLIP_PLACES;
 
 // Where its entries stand in the list of calls, from begin to before end, and how many tickets are refused, which make no call.
 #[derive(Clone, Copy, Drop)]

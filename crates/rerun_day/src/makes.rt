@@ -2,15 +2,10 @@
 use crate::day::Day;
 use crate::verdict::Verdict;
 use anyhow::{Context, bail};
-use directory::rows::RowDirectory;
-use directory::table::HashedDirectory;
-use replay::calls::Call;
-use replay::rerunning::rerun;
+use book::{Call, rerun};
+use directory::{HashedDirectory, RowDirectory};
 use std::alloc::Global;
-use tape::bytes::ByteTape;
-use tape::layout::LINE_BYTES;
-use tape::line::Line;
-use tape::records::RecordTape;
+use tape::{ByteTape, LINE_BYTES, Line, RecordTape};
 
 // The rooms stand here, where the tapes that borrow them are made.
 pub fn on_makes(heap: Global, day: &Day, other_calls: &[Call]) -> anyhow::Result<Verdict> {

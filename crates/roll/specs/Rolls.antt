@@ -1,7 +1,7 @@
 -- What a roll holds: its records, oldest first, and how many more it has room for.
 use Rattle.std.specs.Prelude.{ℕ, zero, suc, ◌-◌, List, length, take, None, Option}
 use Rattle.std.specs.List.{slice_get}
-use Rattle.roll.specs.declared.log.Roll.{Roll}
+use Rattle.roll.specs.declared.roll.Roll.{Roll}
 
 module _ {T : Type 0} where
   abbrev pub records : Roll T → List T

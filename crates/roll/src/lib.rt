@@ -1,4 +1,6 @@
 // An append-only log over memory lent by the caller, for any kind of record.
 #![tactic(auto)]
 
-pub mod log;
+mod roll;
+
+pub use roll::{Full, Roll};

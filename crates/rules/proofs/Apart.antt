@@ -5,8 +5,8 @@ use Rattle.std.proofs.Common.{◌≡◌, ℕ, false, eqb, ◌⊎◌, List, [], �
 use Rattle.std.proofs.lemmas.Bool.{lt-leb, leb-false, eqb-false, and_cases, true≢false}
 use Rattle.terms.specs.Sides.{opposite, meets, same_side}
 use Rattle.terms.specs.Terms.{OrderTerms}
-use Rattle.terms.specs.declared.kinds.Side.{Side}
-use Rattle.terms.specs.declared.kinds.Side.TheVariants.{Buy, Sell}
+use Rattle.terms.specs.declared.side.Side.{Side}
+use Rattle.terms.specs.declared.side.Side.TheVariants.{Buy, Sell}
 use Rattle.rules.specs.Market.{Market, Order, side_of, reach_in, resting}
 use Rattle.rules.specs.Priority.{is_partner, partner_for}
 use Rattle.rules.specs.Sweep.{sweep, lines, sweep_each}

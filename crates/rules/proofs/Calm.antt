@@ -2,8 +2,8 @@
 -- sweep ends with its taker gone or with no partner left. By induction over its lines.
 -- Cite: Calm, calm_then, lines_calm, lines_finish.
 use Rattle.std.proofs.Common.{◌≡◌, ℕ, zero, suc, ◌≤◌, Bool, true, false, ◌⊎◌, List, [], ◌∷◌, length, Some, None, refl, ◌∙◌, subst, inl, inr, arith}
-use Rattle.terms.specs.declared.kinds.Side.{Side}
-use Rattle.terms.specs.declared.kinds.Side.TheVariants.{Buy, Sell}
+use Rattle.terms.specs.declared.side.Side.{Side}
+use Rattle.terms.specs.declared.side.Side.TheVariants.{Buy, Sell}
 use Rattle.rules.specs.Market.{Market, Order, period_runs, side_of, lower, resting}
 use Rattle.rules.specs.Priority.{partner_for}
 use Rattle.rules.specs.Sweep.{recorded, trade, after_trade, traded, lines}

@@ -6,9 +6,9 @@
 use Rattle.std.proofs.Common.{◌≡◌, ℕ, zero, suc, ◌+◌, ◌<◌, ◌≤◌, true, false, leb, List, [], ◌∷◌, length, Some, None, refl, ◌∙◌, subst}
 use Rattle.std.proofs.lemmas.Bool.{leb-false, leb-true, and_parts}
 use Rattle.terms.specs.Terms.{OrderTerms}
-use Rattle.terms.specs.declared.kinds.Side.{Side}
-use Rattle.terms.specs.declared.kinds.TimeInForce.{TimeInForce}
-use Rattle.terms.specs.declared.kinds.TimeInForce.TheVariants.{ImmediateOrCancel, Rest}
+use Rattle.terms.specs.declared.side.Side.{Side}
+use Rattle.terms.specs.declared.time_in_force.TimeInForce.{TimeInForce}
+use Rattle.terms.specs.declared.time_in_force.TimeInForce.TheVariants.{ImmediateOrCancel, Rest}
 use Rattle.rules.specs.declared.refusal.Refusal.{Refusal}
 use Rattle.rules.specs.declared.refusal.Refusal.TheVariants.{NameTaken, BookFull, EntriesSpent, NoSuchOrder, Identifier, Time, TapeShort}
 use Rattle.rules.specs.Answers.{after_clock, cancelled}

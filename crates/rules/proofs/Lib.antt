@@ -3,7 +3,7 @@ pub mod Members
 pub mod Sides
 pub mod Prices
 pub mod Rows
-pub mod Keys
+pub mod ByKeys
 pub mod Partners
 pub mod Lasting
 pub mod Trade

@@ -6,8 +6,8 @@ use Rattle.std.proofs.ByRecursion.{All-push, has_append_right, All-weaker, all-h
 use Rattle.std.proofs.lemmas.Bool.{and_parts, and_from}
 use Rattle.std.specs.List.{ContainsAt as Has, AllByRecursion as Every}
 use Rattle.terms.specs.Terms.{is_mdo}
-use Rattle.terms.specs.declared.kinds.Side.{Side}
-use Rattle.terms.specs.declared.kinds.Side.TheVariants.{Buy, Sell}
+use Rattle.terms.specs.declared.side.Side.{Side}
+use Rattle.terms.specs.declared.side.Side.TheVariants.{Buy, Sell}
 use Rattle.tape.specs.declared.line.Line.{Line}
 use Rattle.tape.specs.declared.line.Mark.{Mark}
 use Rattle.tape.specs.declared.line.Mark.TheVariants.{BidDepleted, OfferDepleted, Nothing}

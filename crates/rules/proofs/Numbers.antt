@@ -6,10 +6,10 @@ use Rattle.std.proofs.ByRecursion.{All-push, All-weaker}
 use Rattle.std.proofs.lemmas.Bool.{leb-false, eqb-false, and_cases, true≢false}
 use Rattle.std.specs.List.{AllByRecursion as Every}
 use Rattle.terms.specs.Terms.{is_ioc}
-use Rattle.terms.specs.declared.kinds.Side.{Side}
-use Rattle.terms.specs.declared.kinds.Side.TheVariants.{Buy, Sell}
-use Rattle.terms.specs.declared.kinds.TimeInForce.{TimeInForce}
-use Rattle.terms.specs.declared.kinds.TimeInForce.TheVariants.{Rest, ImmediateOrCancel}
+use Rattle.terms.specs.declared.side.Side.{Side}
+use Rattle.terms.specs.declared.side.Side.TheVariants.{Buy, Sell}
+use Rattle.terms.specs.declared.time_in_force.TimeInForce.{TimeInForce}
+use Rattle.terms.specs.declared.time_in_force.TimeInForce.TheVariants.{Rest, ImmediateOrCancel}
 use Rattle.rules.specs.Answers.{Answer, entered, cancelled, quoted, ticked, refused}
 use Rattle.rules.specs.Calls.{swept_in, joined, Call, quote, follows_quote, rested, done_at, entry, new_order, cancel, tick, Outcome, call, time_of}
 use Rattle.rules.specs.Clock.{settle, end_period, protected_on, at_time}

@@ -2,12 +2,12 @@
 -- By the step of the fold: the best of the orders seen so far. Cite: next_in, next_none, next_best; the law is best_partner.
 use Rattle.std.proofs.Common.{◌≡◌, ℕ, true, false, ◌&&◌, ◌⊎◌, List, [], ◌∷◌, Some, None, fold, Option, sym, refl, ap, ◌∙◌, subst, inl, inr}
 use Rattle.std.proofs.lemmas.Bool.{and_parts, true≢false}
-use Rattle.terms.specs.declared.kinds.Side.{Side}
+use Rattle.terms.specs.declared.side.Side.{Side}
 use Rattle.rules.specs.Laws.{BestPartner, Chosen}
 use Rattle.rules.specs.Market.{Market, Order}
 use Rattle.rules.specs.Priority.{better_of, is_partner, ahead, next_partner, line_price, line_class}
 use Rattle.rules.proofs.Cases.{if_both, some_same, none_some}
-use Rattle.rules.proofs.Keys.{first_not_itself, first_through, first_not_back}
+use Rattle.rules.proofs.ByKeys.{first_not_itself, first_through, first_not_back}
 use Rattle.rules.proofs.Members.{In, all_in, in_has}
 
 -- the best so far stays, or the order is the new best, and a partner

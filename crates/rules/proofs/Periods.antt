@@ -1,8 +1,8 @@
 -- Every period that runs ends after the clock: a new one ends later than its line, and settling ends the others.
 -- Cite: Later, later_lasts, settle_later.
 use Rattle.std.proofs.Common.{◌≡◌, ℕ, ◌+◌, ◌<◌, ◌≤◌, Bool, true, false, ◌⊎◌, List, Some, sym, refl, inl, inr, arith}
-use Rattle.terms.specs.declared.kinds.Side.{Side}
-use Rattle.terms.specs.declared.kinds.Side.TheVariants.{Buy, Sell}
+use Rattle.terms.specs.declared.side.Side.{Side}
+use Rattle.terms.specs.declared.side.Side.TheVariants.{Buy, Sell}
 use Rattle.rules.specs.Calls.{swept_in, joined, follows_quote}
 use Rattle.rules.specs.Clock.{settle}
 use Rattle.rules.specs.Limits.{protection_period}

@@ -6,10 +6,10 @@ use Rattle.std.proofs.lemmas.Bool.{true≢false, cases_lt}
 use Rattle.terms.specs.Prices.{ranked, ranked_as, limit_or_midpoint, reach_with_discretion, peg}
 use Rattle.terms.specs.Sides.{tamer}
 use Rattle.terms.specs.Terms.{OrderTerms, is_mdo}
-use Rattle.terms.specs.declared.kinds.Kind.{Kind}
-use Rattle.terms.specs.declared.kinds.Kind.TheVariants.{DisplayedLimit, HiddenLimit, DisplayedMdo, HiddenMdo, MidpointPeg}
-use Rattle.terms.specs.declared.kinds.Side.{Side}
-use Rattle.terms.specs.declared.kinds.Side.TheVariants.{Buy, Sell}
+use Rattle.terms.specs.declared.kind.Kind.{Kind}
+use Rattle.terms.specs.declared.kind.Kind.TheVariants.{DisplayedLimit, HiddenLimit, DisplayedMdo, HiddenMdo, MidpointPeg}
+use Rattle.terms.specs.declared.side.Side.{Side}
+use Rattle.terms.specs.declared.side.Side.TheVariants.{Buy, Sell}
 use Rattle.rules.specs.Calls.{pegged}
 use Rattle.rules.specs.Examples.{after}
 use Rattle.rules.specs.Market.{Order, Market, reach_in, period_runs, side_of, ranked_in}

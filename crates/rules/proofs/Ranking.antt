@@ -6,14 +6,14 @@ use Rattle.std.proofs.lemmas.Bool.{true≢false}
 use Rattle.std.specs.List.{ContainsAt as Has, AllByRecursion as Every}
 use Rattle.terms.specs.Codes.{side_from}
 use Rattle.terms.specs.Sides.{same_side}
-use Rattle.terms.specs.declared.kinds.Side.{Side}
+use Rattle.terms.specs.declared.side.Side.{Side}
 use Rattle.rules.specs.Laws.{Ascending, OneRanking, OneAnswer}
 use Rattle.rules.specs.Market.{Market, Order, ranked_in, side_of}
 use Rattle.rules.specs.Priority.{class_of}
 use Rattle.rules.specs.Questions.{ranks_before, placed, InRank, ranking_of, Ranking, Standing, AnsweredOn, asked_on, standing_of, at_place}
 use Rattle.rules.specs.Runs.{run, opened}
 use Rattle.rules.proofs.Cases.{if_both}
-use Rattle.rules.proofs.Keys.{first_then, first_not_back, first_total}
+use Rattle.rules.proofs.ByKeys.{first_then, first_not_back, first_total}
 use Rattle.rules.proofs.Members.{In, in_has, has_in, in_all}
 use Rattle.rules.proofs.Numbers.{numbers_ascend}
 use Rattle.rules.proofs.Sides.{same_side_is, same_side_itself}

@@ -5,8 +5,8 @@ use Rattle.std.proofs.Common.{◌≡◌, ℕ, zero, suc, ◌+◌, ◌<◌, ◌�
 use Rattle.std.proofs.lemmas.Bool.{and_parts, leb-true, leb-false, le-leb}
 use Rattle.std.specs.List.{AllByRecursion as Every}
 use Rattle.terms.specs.Sides.{same_side}
-use Rattle.terms.specs.declared.kinds.Side.{Side}
-use Rattle.terms.specs.declared.kinds.Side.TheVariants.{Buy, Sell}
+use Rattle.terms.specs.declared.side.Side.{Side}
+use Rattle.terms.specs.declared.side.Side.TheVariants.{Buy, Sell}
 use Rattle.rules.specs.Clock.{protected_on, earliest, not_after, due, end_period, end_periods, settle}
 use Rattle.rules.specs.Market.{Market, those, Order, side_of, end_of, with_end}
 use Rattle.rules.specs.Sweep.{sweep, sweep_each}

@@ -1,8 +1,8 @@
 -- Of the two sides: what `same_side` tells, and that no side is its own opposite.
 use Rattle.std.proofs.Common.{◌≡◌, ℕ, true, refl, arith}
 use Rattle.terms.specs.Sides.{same_side, opposite}
-use Rattle.terms.specs.declared.kinds.Side.{Side}
-use Rattle.terms.specs.declared.kinds.Side.TheVariants.{Buy, Sell}
+use Rattle.terms.specs.declared.side.Side.{Side}
+use Rattle.terms.specs.declared.side.Side.TheVariants.{Buy, Sell}
 
 pub same_side_is : (a b : Side) → same_side a b ≡ true → a ≡ b
 same_side_is Buy Buy e = refl

@@ -1,7 +1,7 @@
 -- The clock: a protection period ends at its own end, whenever it is that the book is next told the time.
 use Rattle.std.specs.Prelude.{ℕ, zero, suc, ◌+◌, Bool, true, false, ◌&&◌, length, Some, None, Option, nat_le}
-use Rattle.terms.specs.declared.kinds.Side.{Side}
-use Rattle.terms.specs.declared.kinds.Side.TheVariants.{Buy, Sell}
+use Rattle.terms.specs.declared.side.Side.{Side}
+use Rattle.terms.specs.declared.side.Side.TheVariants.{Buy, Sell}
 use Rattle.terms.specs.Sides.{same_side}
 use Rattle.rules.specs.Market.{Order, Market, Book, side_of, with_end, those}
 use Rattle.rules.specs.Sweep.{sweep_each}

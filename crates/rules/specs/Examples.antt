@@ -1,11 +1,11 @@
 -- Worked examples, as tables: a book, the room of its tape, calls, what they answer, and the lines that the tape then has.
 use Rattle.std.specs.Prelude.{◌≡◌, ℕ, ◌+◌, true, false, List, [], ◌∷◌, ◌++◌, map, ℤ, pos, negsuc, Some, None, Option}
-use Rattle.terms.specs.declared.kinds.Side.{Side}
-use Rattle.terms.specs.declared.kinds.Side.TheVariants.{Buy, Sell}
-use Rattle.terms.specs.declared.kinds.Kind.{Kind}
-use Rattle.terms.specs.declared.kinds.Kind.TheVariants.{DisplayedLimit, HiddenLimit, DisplayedMdo, HiddenMdo, MidpointPeg}
-use Rattle.terms.specs.declared.kinds.TimeInForce.{TimeInForce}
-use Rattle.terms.specs.declared.kinds.TimeInForce.TheVariants.{Rest, ImmediateOrCancel}
+use Rattle.terms.specs.declared.side.Side.{Side}
+use Rattle.terms.specs.declared.side.Side.TheVariants.{Buy, Sell}
+use Rattle.terms.specs.declared.kind.Kind.{Kind}
+use Rattle.terms.specs.declared.kind.Kind.TheVariants.{DisplayedLimit, HiddenLimit, DisplayedMdo, HiddenMdo, MidpointPeg}
+use Rattle.terms.specs.declared.time_in_force.TimeInForce.{TimeInForce}
+use Rattle.terms.specs.declared.time_in_force.TimeInForce.TheVariants.{Rest, ImmediateOrCancel}
 use Rattle.terms.specs.Terms.{OrderTerms}
 use Rattle.tape.specs.declared.line.Line.{Line}
 use Rattle.tape.specs.declared.line.Mark.{Mark}

@@ -1,8 +1,8 @@
 -- The laws, each in a sentence. A run is any list of calls on a new book, and its tape has room for `room` lines.
 use Rattle.std.specs.Prelude.{◌≡◌, ℕ, ◌+◌, ◌*◌, ◌<◌, ◌≤◌, Bool, true, false, ◌⊎◌, ◌↔◌, List, [], ◌∷◌, length, Some, None, Option, ◌≢◌}
 use Rattle.std.specs.List.{ContainsAt as Has, AllByRecursion as Every}
-use Rattle.terms.specs.declared.kinds.Side.{Side}
-use Rattle.terms.specs.declared.kinds.Side.TheVariants.{Buy, Sell}
+use Rattle.terms.specs.declared.side.Side.{Side}
+use Rattle.terms.specs.declared.side.Side.TheVariants.{Buy, Sell}
 use Rattle.terms.specs.Terms.{is_mdo}
 use Rattle.tape.specs.declared.line.Line.{Line}
 use Rattle.rules.specs.declared.refusal.Refusal.{Refusal}

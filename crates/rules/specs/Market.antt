@@ -1,7 +1,7 @@
 -- What a book holds. The market is all that a sweep reads or changes; clock and count stand outside of it.
 use Rattle.std.specs.Prelude.{ℕ, ◌-◌, Bool, true, false, List, [], ◌∷◌, ◌++◌, is_some, Some, None, Option, ◌==◌, nat_le}
-use Rattle.terms.specs.declared.kinds.Side.{Side}
-use Rattle.terms.specs.declared.kinds.Side.TheVariants.{Buy, Sell}
+use Rattle.terms.specs.declared.side.Side.{Side}
+use Rattle.terms.specs.declared.side.Side.TheVariants.{Buy, Sell}
 use Rattle.terms.specs.Terms.{OrderTerms}
 use Rattle.terms.specs.Prices.{ranked, reach}
 use Rattle.tape.specs.declared.line.Line.{Line}

@@ -1,9 +1,9 @@
 -- Who trades next with a taker, and at which price. A taker is the order that is being swept, at a price of its own;
 -- its partners are the orders of the other side that it can trade with.
 use Rattle.std.specs.Prelude.{ℕ, Bool, true, false, cond, ◌&&◌, ◌||◌, List, Some, None, fold, Option, ◌==◌, nat_lt}
-use Rattle.terms.specs.declared.kinds.Side.{Side}
-use Rattle.terms.specs.declared.kinds.Kind.{Kind}
-use Rattle.terms.specs.declared.kinds.Kind.TheVariants.{DisplayedLimit, HiddenLimit, DisplayedMdo, HiddenMdo, MidpointPeg}
+use Rattle.terms.specs.declared.side.Side.{Side}
+use Rattle.terms.specs.declared.kind.Kind.{Kind}
+use Rattle.terms.specs.declared.kind.Kind.TheVariants.{DisplayedLimit, HiddenLimit, DisplayedMdo, HiddenMdo, MidpointPeg}
 use Rattle.terms.specs.Sides.{opposite, same_side, meets, outranks}
 use Rattle.rules.specs.declared.priority.Class.{Class}
 use Rattle.rules.specs.declared.priority.Class.TheVariants.{Displayed, Hidden, Midpoint, Away}

@@ -1,8 +1,8 @@
 -- Worked examples of priority, line prices, marks and periods, for what no law pins. The words are those of Examples.
 use Rattle.std.specs.Prelude.{◌+◌, List, [], ◌∷◌, ◌++◌, pos, negsuc}
-use Rattle.terms.specs.declared.kinds.Kind.TheVariants.{DisplayedLimit, HiddenMdo, HiddenLimit, DisplayedMdo, MidpointPeg}
-use Rattle.terms.specs.declared.kinds.Side.TheVariants.{Sell, Buy}
-use Rattle.terms.specs.declared.kinds.TimeInForce.TheVariants.{Rest, ImmediateOrCancel}
+use Rattle.terms.specs.declared.kind.Kind.TheVariants.{DisplayedLimit, HiddenMdo, HiddenLimit, DisplayedMdo, MidpointPeg}
+use Rattle.terms.specs.declared.side.Side.TheVariants.{Sell, Buy}
+use Rattle.terms.specs.declared.time_in_force.TimeInForce.TheVariants.{Rest, ImmediateOrCancel}
 use Rattle.tape.specs.declared.line.Mark.TheVariants.{OfferDepleted, Nothing, BidDepleted}
 use Rattle.rules.specs.declared.refusal.Refusal.TheVariants.{NoSuchOrder, Time}
 use Rattle.rules.specs.Answers.{entered, cancelled, ticked, refused, quoted}

@@ -1,8 +1,8 @@
 -- Questions, which alter nothing, and the figures at the close.
 use Rattle.std.specs.Prelude.{◌≡◌, ℕ, zero, suc, ◌+◌, ◌*◌, Bool, true, false, cond, List, [], ◌∷◌, Some, None, sum_by, count_by, Option, ◌==◌}
 use Rattle.std.specs.List.{ContainsAt as Has, AllByRecursion as Every, slice_get}
-use Rattle.terms.specs.declared.kinds.Side.{Side}
-use Rattle.terms.specs.declared.kinds.Side.TheVariants.{Buy, Sell}
+use Rattle.terms.specs.declared.side.Side.{Side}
+use Rattle.terms.specs.declared.side.Side.TheVariants.{Buy, Sell}
 use Rattle.terms.specs.Sides.{same_side}
 use Rattle.terms.specs.Terms.{is_mdo}
 use Rattle.terms.specs.Codes.{side_from}

@@ -1,8 +1,8 @@
 -- Worked examples of the refusals, each with what it leaves. The words are those of Examples.
 use Rattle.std.specs.Prelude.{ℕ, zero, suc, ◌+◌, ◌-◌, List, [], ◌∷◌, ◌++◌, negsuc}
-use Rattle.terms.specs.declared.kinds.Kind.TheVariants.{DisplayedLimit}
-use Rattle.terms.specs.declared.kinds.Side.TheVariants.{Sell}
-use Rattle.terms.specs.declared.kinds.TimeInForce.TheVariants.{Rest}
+use Rattle.terms.specs.declared.kind.Kind.TheVariants.{DisplayedLimit}
+use Rattle.terms.specs.declared.side.Side.TheVariants.{Sell}
+use Rattle.terms.specs.declared.time_in_force.TimeInForce.TheVariants.{Rest}
 use Rattle.tape.specs.declared.line.Mark.TheVariants.{BidDepleted, Nothing}
 use Rattle.rules.specs.declared.refusal.Refusal.TheVariants.{Identifier, Time, TapeShort, NameTaken, NoSuchOrder, BookFull, EntriesSpent}
 use Rattle.rules.specs.Answers.{Answer, entered, refused, ticked, cancelled}

@@ -1,9 +1,9 @@
 -- A sweep: one order is the taker, at the reach that it has when the sweep begins, until it is filled or finds no partner.
 use Rattle.std.specs.Prelude.{ℕ, zero, suc, ◌+◌, min, Bool, true, false, cond, not, ◌&&◌, List, [], ◌∷◌, length, Some, None, fold, sum_by, ◌==◌, nat_lt}
-use Rattle.terms.specs.declared.kinds.Side.{Side}
-use Rattle.terms.specs.declared.kinds.Side.TheVariants.{Buy, Sell}
-use Rattle.terms.specs.declared.kinds.Kind.{Kind}
-use Rattle.terms.specs.declared.kinds.Kind.TheVariants.{DisplayedLimit, HiddenLimit, DisplayedMdo, HiddenMdo, MidpointPeg}
+use Rattle.terms.specs.declared.side.Side.{Side}
+use Rattle.terms.specs.declared.side.Side.TheVariants.{Buy, Sell}
+use Rattle.terms.specs.declared.kind.Kind.{Kind}
+use Rattle.terms.specs.declared.kind.Kind.TheVariants.{DisplayedLimit, HiddenLimit, DisplayedMdo, HiddenMdo, MidpointPeg}
 use Rattle.terms.specs.Sides.{same_side, outranks}
 use Rattle.tape.specs.declared.line.Line.{Line}
 use Rattle.tape.specs.declared.line.Mark.{Mark}

@@ -2,103 +2,17 @@
 // Each law stands in the contract of a function, mostly one that tells a number of the rule.
 #![tactic(auto)]
 
-ghost use Rattle.std.specs.Prelude.{◌≡◌, nat_le, nat_lt};
-ghost use Rattle.rules.specs.Limits.{round_lot, protection_period, most_resting, most_entries, fewest_left, last_moment};
-ghost use Rattle.rules.specs.Laws.{TicksChangeOnlyTheClock, SettlesAtOnce, TapeExplainsDiscretion, ReasonsHold};
-ghost use Rattle.rules.specs.Laws.{NeverCrossed, LinesWithinOrders, EntriesCounted, NumberedInTurn, NumbersAscend};
-ghost use Rattle.rules.specs.Laws.{OrdersWithinPlaces, SharesRemain};
-ghost use Rattle.rules.specs.Examples.{AsTold, told_with_the_rules, QuestionsAsTold};
-ghost use Rattle.rules.specs.PriorityRuns.{told_of_priority};
-ghost use Rattle.rules.specs.RefusalRuns.{told_of_refusals};
+mod laws;
+mod limits;
+mod priority;
+mod refusal;
 
-pub mod priority;
-pub mod refusal;
-
-pub const ROUND_LOT: u32 = 100;
-// In microseconds.
-pub const PROTECTION_PERIOD: u64 = 2_000;
-// In microseconds since midnight.
-pub const LAST_MOMENT: u64 = 86_399_999_999;
-
-pub const MOST_RESTING: usize = 64;
-
-pub const MOST_ENTRIES: u32 = 1_000_000;
-
-pub const FEWEST_LEFT: u32 = 1;
-
-// The round lot. The worked examples stand, which pin it together with class order, line price and refusals.
-pub fn examples_stand() -> u32
-    ensures lot { result ≡ round_lot }
-    ensures rules { AsTold told_with_the_rules }
-    ensures priority { AsTold told_of_priority }
-    ensures refusals { AsTold told_of_refusals }
-    ensures questions { QuestionsAsTold }
-{
-    ROUND_LOT
-}
-
-// The last moment of the day; until then it does not matter when the book is ticked.
-pub fn ticks_change_only_the_clock() -> u64
-    ensures day { result ≡ last_moment }
-    ensures ticks { TicksChangeOnlyTheClock }
-{
-    LAST_MOMENT
-}
-
-// The time to settle to in place of two times, one after the other.
-pub fn settles_at_once(earlier: u64, later: u64) -> u64
-    ensures { SettlesAtOnce earlier later result }
-{
-    earlier.max(later)
-}
-
-// How long a side is protected after a depletion; the tape tells which orders that restrains, and why.
-pub fn tape_explains_discretion() -> u64
-    ensures period { result ≡ protection_period }
-    ensures discretion { TapeExplainsDiscretion }
-    ensures reasons { ReasonsHold }
-{
-    PROTECTION_PERIOD
-}
-
-// Whether a buy and a sell that reach so far can rest together.
-pub fn never_crossed(buy_reach: u32, sell_reach: u32) -> bool
-    ensures apart { result ≡ nat_lt buy_reach sell_reach }
-    ensures never { NeverCrossed }
-{
-    buy_reach < sell_reach
-}
-
-// Whether so many free lines are enough for a call that finds so many orders resting.
-pub fn lines_within_orders(resting: usize, free: usize) -> bool
-    ensures enough { result ≡ nat_le resting free }
-    ensures within { LinesWithinOrders }
-{
-    resting <= free
-}
-
-// The highest entry number. Accepted entries have the numbers from 1 on, without a gap, and stand in the book in that order.
-pub fn entries_are_numbered() -> u32
-    ensures most { result ≡ most_entries }
-    ensures counted { EntriesCounted }
-    ensures turn { NumberedInTurn }
-    ensures ascend { NumbersAscend }
-{
-    MOST_ENTRIES
-}
-
-// How many orders can rest.
-pub fn orders_within_places() -> usize
-    ensures most { result ≡ most_resting }
-    ensures within { OrdersWithinPlaces }
-{
-    MOST_RESTING
-}
-
-// The fewest shares that a resting order has left.
-pub fn shares_remain() -> u32
-    ensures fewest { result ≡ fewest_left }
-    ensures remain { SharesRemain }
-{
-    FEWEST_LEFT
-}
+pub use laws::{
+    entries_are_numbered, examples_stand, lines_within_orders, never_crossed, orders_within_places,
+    settles_at_once, shares_remain, tape_explains_discretion, ticks_change_only_the_clock,
+};
+pub use limits::{
+    FEWEST_LEFT, LAST_MOMENT, MOST_ENTRIES, MOST_RESTING, PROTECTION_PERIOD, ROUND_LOT,
+};
+pub use priority::{Class, Keys, class_of, no_partner_goes_ahead, one_ranking};
+pub use refusal::Refusal;

@@ -1,10 +1,10 @@
 // Who goes first: the keys by which partners are chosen and a side is ranked.
 ghost use Rattle.std.specs.Prelude.{◌≡◌};
-ghost use Rattle.rules.specs.Priority.{class_number, class_of, away_class, goes_first};
+ghost use Rattle.rules.specs.Laws.{BestPartner, OneAnswer, OneRanking};
+ghost use Rattle.rules.specs.Priority.{away_class, class_number, class_of, goes_first};
 ghost use Rattle.rules.specs.Questions.{index_of};
-ghost use Rattle.rules.specs.Laws.{BestPartner, OneRanking, OneAnswer};
 
-use terms::kinds::{Kind, Side};
+use terms::{Kind, Side};
 
 // At one price the lower class trades first. Away: the order trades away from its ranked price.
 #[derive(Clone, Copy, PartialEq, Eq, PartialOrd, Ord, Debug, Drop)]
@@ -15,13 +15,12 @@ pub enum Class {
     Away = 4,
 }
 
-// The rule's number of a class.
-impl From<Class> for u8 {
-    ghost from_gives = { λ class number. number ≡ class_number class };
-
-    fn from(class: Class) -> u8 {
-        class as u8
-    }
+// The three keys of an order, the price in half-cents.
+#[derive(Clone, Copy, PartialEq, Eq, Debug, Drop)]
+pub struct Keys {
+    pub price: u32,
+    pub class: Class,
+    pub number: u32,
 }
 
 // An order's class at its ranked price.
@@ -32,29 +31,6 @@ pub fn class_of(kind: Kind) -> Class
         Kind::DisplayedLimit | Kind::DisplayedMdo => Class::Displayed,
         Kind::HiddenLimit | Kind::HiddenMdo => Class::Hidden,
         Kind::MidpointPeg => Class::Midpoint,
-    }
-}
-
-// The three keys of an order, the price in half-cents.
-#[derive(Clone, Copy, PartialEq, Eq, Debug, Drop)]
-pub struct Keys {
-    pub price: u32,
-    pub class: Class,
-    pub number: u32,
-}
-
-impl Keys {
-    // Whether an order of the side with these keys goes before one with the other keys.
-    pub fn goes_first(self, side: Side, other: Keys) -> bool
-        ensures { result ≡ goes_first side self.price (class_number self.class) self.number other.price (class_number other.class) other.number }
-    {
-        if self.price != other.price {
-            return match side {
-                Side::Buy => self.price > other.price,
-                Side::Sell => self.price < other.price,
-            };
-        }
-        (self.class, self.number) < (other.class, other.number)
     }
 }
 
@@ -73,4 +49,28 @@ pub fn one_ranking(place: usize) -> Option<usize>
     ensures answer { OneAnswer }
 {
     place.checked_sub(1)
+}
+
+// The rule's number of a class.
+impl From<Class> for u8 {
+    ghost from_gives = { λ class number. number ≡ class_number class };
+
+    fn from(class: Class) -> u8 {
+        class as u8
+    }
+}
+
+impl Keys {
+    // Whether an order of the side with these keys goes before one with the other keys.
+    pub fn goes_first(self, side: Side, other: Keys) -> bool
+        ensures { result ≡ goes_first side self.price (class_number self.class) self.number other.price (class_number other.class) other.number }
+    {
+        if self.price != other.price {
+            return match side {
+                Side::Buy => self.price > other.price,
+                Side::Sell => self.price < other.price,
+            };
+        }
+        (self.class, self.number) < (other.class, other.number)
+    }
 }

@@ -1,6 +1,6 @@
 // Why a call of the book is refused, and what that leaves.
 ghost use Rattle.std.specs.Prelude.{◌≡◌};
-ghost use Rattle.rules.specs.Answers.{refusal_number, after_clock};
+ghost use Rattle.rules.specs.Answers.{after_clock, refusal_number};
 ghost use Rattle.rules.specs.Laws.{RefusalLeaves};
 
 // Of these the first that holds is told.

@@ -9,13 +9,10 @@ mod rows;
 use crate::failure::Failure;
 use crate::request::{HELP, Request, VERSION};
 use anyhow::{Context, anyhow};
-use register::faults::Fault;
-use register::listed::Listed;
-use register::reader::Reader;
+use register::{Fault, Listed, Reader};
 use std::process::ExitCode;
 use std::{env, fs, io};
-use terms::lawful::Quote;
-use terms::show::HalfCents;
+use terms::{HalfCents, Quote};
 
 #[derive(Clone, Copy, Default, Drop)]
 struct Counts {

@@ -3,8 +3,7 @@ ghost use Rattle.std.specs.Prelude.{◌≡◌, true, false};
 ghost use Rattle.terms.specs.Prices.{ranked as ranked_of, reach as reach_of};
 ghost use Rattle.terms.specs.Made.{terms_of};
 
-use terms::lawful::{Quote, Terms};
-use terms::prices::{ranked_price, reach};
+use terms::{Quote, Terms, ranked_price, reach};
 
 // In half-cents: where the order ranks, and how far it reaches while its side's protection period does not run and
 // while it does.

@@ -1,9 +1,8 @@
 // The lines of a sheet.
 use crate::prices::Prices;
-use register::listed::Listed;
+use register::Listed;
 use std::alloc::{AllocError, Global};
-use terms::lawful::{Quote, Terms};
-use terms::show::HalfCents;
+use terms::{HalfCents, Quote, Terms};
 
 // Bytes as text; what cannot be printed, and a backslash, by two hexadecimal digits.
 pub(crate) fn text(heap: Global, bytes: &[u8]) -> Result<String, AllocError> {

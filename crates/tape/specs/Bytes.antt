@@ -1,7 +1,7 @@
 -- What a tape of bytes holds.
 use Rattle.std.specs.Prelude.{ℕ, ◌-◌, ◌*◌, ◌/◌, List, length, take}
 use Rattle.tape.specs.declared.line.Line.{Line}
-use Rattle.tape.specs.declared.bytes.ByteTape.{ByteTape}
+use Rattle.tape.specs.declared.byte_tape.ByteTape.{ByteTape}
 use Rattle.tape.specs.Layout.{lines_in}
 
 abbrev pub byte_lines : ByteTape → List Line

@@ -1,10 +1,10 @@
 // A line in bytes: six fields, each a tag, two bytes of length and the value, most significant byte first.
-ghost use Rattle.std.specs.Prelude.{◌≡◌, ◌+◌, ◌<◌, ◌≤◌, List, ◌∷◌, length, take, drop};
 ghost use Rattle.std.proofs.Math.Seq.{paste};
 ghost use Rattle.std.specs.List.{AllByRecursion};
+ghost use Rattle.std.specs.Prelude.{List, drop, length, take, ◌+◌, ◌<◌, ◌∷◌, ◌≡◌, ◌≤◌};
 ghost use Rattle.roll.specs.Rolls.{at_place};
+ghost use Rattle.tape.specs.Layout.{InWidth, line_at, line_bytes as line_bytes_of, line_in as line_in_of, line_read, tape_bytes};
 ghost use Rattle.tape.specs.declared.line.Line.{Line as TradeLine};
-ghost use Rattle.tape.specs.Layout.{line_bytes as line_bytes_of, tape_bytes, number_at, line_at, line_read, line_in as line_in_of, InWidth};
 
 use crate::line::{Line, Mark};
 

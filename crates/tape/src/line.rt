@@ -2,7 +2,6 @@ ghost use Rattle.std.specs.Prelude.{◌≡◌};
 ghost use Rattle.tape.specs.Layout.{mark_code, mark_of};
 
 // One trade, as the tape keeps it.
-
 // Whether the trade depleted a side's best displayed price.
 #[derive(Clone, Copy, PartialEq, Eq, Debug, Default, Drop)]
 pub enum Mark {
@@ -10,6 +9,17 @@ pub enum Mark {
     Nothing = 0,
     BidDepleted = 1,
     OfferDepleted = 2,
+}
+
+// Time is microseconds since midnight; partner and taker are entry numbers; the price is in half-cents.
+#[derive(Clone, Copy, PartialEq, Eq, Debug, Default, Drop)]
+pub struct Line {
+    pub time: u64,
+    pub partner: u32,
+    pub taker: u32,
+    pub shares: u32,
+    pub price: u32,
+    pub mark: Mark,
 }
 
 // The byte of a mark.
@@ -32,15 +42,4 @@ impl From<u8> for Mark {
             _ => Mark::Nothing,
         }
     }
-}
-
-// Time is microseconds since midnight; partner and taker are entry numbers; the price is in half-cents.
-#[derive(Clone, Copy, PartialEq, Eq, Debug, Default, Drop)]
-pub struct Line {
-    pub time: u64,
-    pub partner: u32,
-    pub taker: u32,
-    pub shares: u32,
-    pub price: u32,
-    pub mark: Mark,
 }

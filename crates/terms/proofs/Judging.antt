@@ -2,12 +2,12 @@
 -- are in range and do not go together.
 use Rattle.std.proofs.Common.{◌≡◌, ◌≤◌, ap, ◌∙◌, sym, Bool, true, false, arith, Some, None, Ok, Err, Option, Result}
 use Rattle.std.specs.Prelude.{ok_or}
-use Rattle.terms.specs.declared.kinds.Side.{Side}
-use Rattle.terms.specs.declared.kinds.Kind.{Kind}
-use Rattle.terms.specs.declared.kinds.TimeInForce.{TimeInForce}
-use Rattle.terms.specs.declared.kinds.Draft.{Draft}
-use Rattle.terms.specs.declared.kinds.Refusal.{Refusal}
-use Rattle.terms.specs.declared.kinds.Refusal.TheVariants.{UnknownCode, Shares, Limit, Offset, Combination}
+use Rattle.terms.specs.declared.side.Side.{Side}
+use Rattle.terms.specs.declared.kind.Kind.{Kind}
+use Rattle.terms.specs.declared.time_in_force.TimeInForce.{TimeInForce}
+use Rattle.terms.specs.declared.ticket.Draft.{Draft}
+use Rattle.terms.specs.declared.refusal.Refusal.{Refusal}
+use Rattle.terms.specs.declared.refusal.Refusal.TheVariants.{UnknownCode, Shares, Limit, Offset, Combination}
 use Rattle.terms.specs.Codes.{side_from, kind_from, time_in_force_from, qdp_from}
 use Rattle.terms.specs.Terms.{OrderTerms, in_range, most_shares, top_price, offset_in_range, go_together, judged, ticket_from}
 

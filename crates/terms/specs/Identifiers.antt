@@ -1,7 +1,7 @@
 -- Lawful identifiers: between one and twenty bytes, all of them printable ASCII without the blank (33 to 126).
 use Rattle.std.specs.Prelude.{ℕ, Bool, true, false, ◌&&◌, List, [], ◌∷◌, length, Some, None, Option}
-use Rattle.terms.specs.declared.kinds.Refusal.{Refusal}
-use Rattle.terms.specs.declared.kinds.Refusal.TheVariants as refusal
+use Rattle.terms.specs.declared.refusal.Refusal.{Refusal}
+use Rattle.terms.specs.declared.refusal.Refusal.TheVariants as refusal
 use Rattle.terms.specs.Terms.{in_range}
 
 -- every byte can be printed, and none is a blank

@@ -1,9 +1,9 @@
 -- What the code's structs say, as plain terms.
 use Rattle.std.specs.Prelude.{ℕ, Ok, Err, Result}
-use Rattle.terms.specs.declared.kinds.Refusal.{Refusal}
-use Rattle.terms.specs.declared.lawful.Quote.{Quote}
-use Rattle.terms.specs.declared.lawful.Terms.{Terms}
-use Rattle.terms.specs.declared.lawful.Ticket.{Ticket}
+use Rattle.terms.specs.declared.refusal.Refusal.{Refusal}
+use Rattle.terms.specs.declared.quote.Quote.{Quote}
+use Rattle.terms.specs.declared.ticket.Terms.{Terms}
+use Rattle.terms.specs.declared.ticket.Ticket.{Ticket}
 use Rattle.terms.specs.Terms.{OrderTerms}
 
 abbrev pub terms_of : Terms → OrderTerms

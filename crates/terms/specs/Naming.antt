@@ -1,6 +1,6 @@
 -- The bytes of an identifier that is kept by value.
 use Rattle.std.specs.Prelude.{ℕ, List, take}
-use Rattle.terms.specs.declared.identifiers.Identifier.{Identifier}
+use Rattle.terms.specs.declared.identifier.Identifier.{Identifier}
 
 abbrev pub identifier_bytes : Identifier → List ℕ
 identifier_bytes i = take i.len i.bytes

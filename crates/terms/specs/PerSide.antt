@@ -1,6 +1,6 @@
 -- A value for each side, read and replaced by the side.
-use Rattle.terms.specs.declared.kinds.Side.{Side}
-use Rattle.terms.specs.declared.kinds.Side.TheVariants.{Buy, Sell}
+use Rattle.terms.specs.declared.side.Side.{Side}
+use Rattle.terms.specs.declared.side.Side.TheVariants.{Buy, Sell}
 use Rattle.terms.specs.declared.per_side.PerSide.{PerSide}
 
 abbrev pub of_side : {T : Type 0} → Side → PerSide T → T

@@ -1,10 +1,10 @@
 -- The two prices of an order, in half-cents: the ranked price, at which it stands in the book, and the reach, the
 -- price up to which it trades. Bid and offer in cents add up to the midpoint in half-cents.
 use Rattle.std.specs.Prelude.{ℕ, suc, ◌+◌, ◌-◌, ◌*◌, min, max, Bool, true, false, ◌&&◌, ℤ, pos, negsuc}
-use Rattle.terms.specs.declared.kinds.Side.{Side}
-use Rattle.terms.specs.declared.kinds.Side.TheVariants.{Buy, Sell}
-use Rattle.terms.specs.declared.kinds.Kind.{Kind}
-use Rattle.terms.specs.declared.kinds.Kind.TheVariants.{DisplayedLimit, HiddenLimit, DisplayedMdo, HiddenMdo, MidpointPeg}
+use Rattle.terms.specs.declared.side.Side.{Side}
+use Rattle.terms.specs.declared.side.Side.TheVariants.{Buy, Sell}
+use Rattle.terms.specs.declared.kind.Kind.{Kind}
+use Rattle.terms.specs.declared.kind.Kind.TheVariants.{DisplayedLimit, HiddenLimit, DisplayedMdo, HiddenMdo, MidpointPeg}
 use Rattle.terms.specs.Sides.{tamer}
 use Rattle.terms.specs.Terms.{OrderTerms}
 

@@ -1,7 +1,7 @@
 -- The two sides by one text: every rule that mirrors on the other side is stated over the side, by these words.
 use Rattle.std.specs.Prelude.{ℕ, min, max, Bool, true, false, nat_le, nat_lt}
-use Rattle.terms.specs.declared.kinds.Side.{Side}
-use Rattle.terms.specs.declared.kinds.Side.TheVariants.{Buy, Sell}
+use Rattle.terms.specs.declared.side.Side.{Side}
+use Rattle.terms.specs.declared.side.Side.TheVariants.{Buy, Sell}
 
 abbrev pub opposite : Side → Side
 opposite Buy = Sell

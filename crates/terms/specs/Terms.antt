@@ -1,14 +1,14 @@
 -- The terms of an order, and which terms and quotes are lawful.
 use Rattle.std.specs.Prelude.{ℕ, Bool, true, false, not, ◌&&◌, ◌||◌, ℤ, pos, negsuc, Some, None, Ok, Err, Option, Result, nat_le, nat_lt}
-use Rattle.terms.specs.declared.kinds.Side.{Side}
-use Rattle.terms.specs.declared.kinds.Side.TheVariants.{Buy, Sell}
-use Rattle.terms.specs.declared.kinds.Kind.{Kind}
-use Rattle.terms.specs.declared.kinds.Kind.TheVariants.{DisplayedLimit, HiddenLimit, DisplayedMdo, HiddenMdo, MidpointPeg}
-use Rattle.terms.specs.declared.kinds.TimeInForce.{TimeInForce}
-use Rattle.terms.specs.declared.kinds.TimeInForce.TheVariants.{Rest, ImmediateOrCancel}
-use Rattle.terms.specs.declared.kinds.Draft.{Draft}
-use Rattle.terms.specs.declared.kinds.Refusal.{Refusal}
-use Rattle.terms.specs.declared.kinds.Refusal.TheVariants as refusal
+use Rattle.terms.specs.declared.side.Side.{Side}
+use Rattle.terms.specs.declared.side.Side.TheVariants.{Buy, Sell}
+use Rattle.terms.specs.declared.kind.Kind.{Kind}
+use Rattle.terms.specs.declared.kind.Kind.TheVariants.{DisplayedLimit, HiddenLimit, DisplayedMdo, HiddenMdo, MidpointPeg}
+use Rattle.terms.specs.declared.time_in_force.TimeInForce.{TimeInForce}
+use Rattle.terms.specs.declared.time_in_force.TimeInForce.TheVariants.{Rest, ImmediateOrCancel}
+use Rattle.terms.specs.declared.ticket.Draft.{Draft}
+use Rattle.terms.specs.declared.refusal.Refusal.{Refusal}
+use Rattle.terms.specs.declared.refusal.Refusal.TheVariants as refusal
 use Rattle.terms.specs.Codes.{side_from, kind_from, time_in_force_from, qdp_from}
 
 -- what an order says, lawful or not; limit and offset are whole cents

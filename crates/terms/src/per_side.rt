@@ -2,7 +2,7 @@
 ghost use Rattle.std.specs.Prelude.{◌≡◌};
 ghost use Rattle.terms.specs.PerSide.{of_side, with_side};
 
-use crate::kinds::Side;
+use crate::side::Side;
 
 #[derive(Clone, Copy, PartialEq, Eq, Debug, Drop)]
 pub struct PerSide<T> {

@@ -1,14 +1,12 @@
 // A day file on a book of any makes.
 use anyhow::{Context, anyhow};
-use days::commands::{BadLine, Command, Expected, read_command};
-use days::desk::Desk;
-use days::telling::Output;
-use directory::directories::Directory;
+use day_file::{BadLine, Command, Desk, Expected, Output, read_command};
+use directory::Directory;
 use rules::MOST_ENTRIES;
 use std::alloc::Global;
 use std::ops::ControlFlow;
-use tape::tapes::Tape;
-use terms::lawful::Quote;
+use tape::Tape;
+use terms::Quote;
 
 // What a day file's first command opens its book with, and how many lines it takes up to there.
 #[derive(Clone, Copy, Drop)]

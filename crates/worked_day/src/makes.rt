@@ -1,13 +1,10 @@
 // Each day on a new book, and then entries until no more are accepted.
 use crate::day::{play, read_opening, spend_entries};
 use anyhow::Context;
-use days::telling::Output;
-use directory::directories::Directory;
+use day_file::Output;
+use directory::Directory;
 use std::alloc::{AllocError, Global};
-use tape::bytes::ByteTape;
-use tape::layout::LINE_BYTES;
-use tape::line::Line;
-use tape::records::RecordTape;
+use tape::{ByteTape, LINE_BYTES, Line, RecordTape};
 
 // A tape borrows its room, which stands in the function that makes it: hence one for each make, with the same loop.
 pub fn on_records<D: Directory + Drop, F: Fn() -> Result<D, AllocError> + Drop>(

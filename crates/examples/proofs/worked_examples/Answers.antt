@@ -1,7 +1,7 @@
 -- Both sides of the table compute to the same, once the definitions are unfolded.
 use mathlib.Core.Path.{refl}
 use Rattle.register.specs.Reading.{read_fields}
-use Rattle.writing.specs.Orders.{order_fields}
+use Rattle.register.specs.Orders.{order_fields}
 use Rattle.rules.specs.Market.{ranked_in, reach_in, resting, without, lower, those}
 use Rattle.rules.specs.Priority.{next_partner}
 use Rattle.rules.specs.Sweep.{best_displayed, displayed_shares, depletes, trade, lines, sweep, sweep_each}

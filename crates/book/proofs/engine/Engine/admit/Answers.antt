@@ -2,8 +2,8 @@
 use Rattle.std.proofs.Common.{◌≡◌, ◌+◌, is_some, vec_items, sym, refl, ap, ◌∙◌}
 use Rattle.std.proofs.lemmas.Bool.{le-leb, lt-leb}
 use Rattle.rules.specs.Calls.{named}
-use Rattle.orders.specs.Changes.{AllRest}
-use Rattle.orders.specs.Rows.{orders_in}
+use Rattle.market.specs.Changes.{AllRest}
+use Rattle.market.specs.Rows.{orders_in}
 use Rattle.rules.specs.Limits.{most_entries}
 use Rattle.book.specs.Books.{BookTied}
 use Rattle.book.proofs.EntryTests.{name_test, same_test}

@@ -1,8 +1,8 @@
 -- Each way out, by the lemma of its kind.
 use Rattle.std.proofs.Common.{◌≡◌, ℕ, true, Ok, sym, refl, ap, ◌∙◌, subst}
 use Rattle.std.proofs.lemmas.Result.{err_from_is_err_and}
-use Rattle.terms.specs.declared.kinds.TimeInForce.{TimeInForce}
-use Rattle.terms.specs.declared.kinds.TimeInForce.TheVariants.{Rest, ImmediateOrCancel}
+use Rattle.terms.specs.declared.time_in_force.TimeInForce.{TimeInForce}
+use Rattle.terms.specs.declared.time_in_force.TimeInForce.TheVariants.{Rest, ImmediateOrCancel}
 use Rattle.terms.specs.Terms.{OrderTerms}
 use Rattle.terms.specs.Made.{terms_of}
 use Rattle.rules.specs.declared.refusal.Refusal.TheVariants.{Identifier}
@@ -10,8 +10,8 @@ use Rattle.rules.specs.Calls.{entry, swept_in, rested}
 use Rattle.rules.proofs.Lasting.{call_unlawful}
 use Rattle.terms.specs.Identifiers.{lawful_identifier}
 use Rattle.rules.specs.Answers.{entered}
-use Rattle.orders.specs.declared.row.Row.{Row}
-use Rattle.orders.specs.Rows.{row_order}
+use Rattle.market.specs.declared.row.Row.{Row}
+use Rattle.market.specs.Rows.{row_order}
 use Rattle.market.specs.Markets.{market_of}
 use Rattle.book.specs.Tied.{row_name}
 use Rattle.book.specs.declared.engine.Engine.{Engine}

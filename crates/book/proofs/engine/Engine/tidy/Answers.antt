@@ -1,6 +1,6 @@
 use Rattle.std.proofs.Common.{List, sym, ap, ◌∙◌, subst}
-use Rattle.orders.specs.declared.row.Row.{Row}
-use Rattle.orders.specs.Rows.{identifier_bytes}
+use Rattle.market.specs.declared.row.Row.{Row}
+use Rattle.market.specs.Rows.{identifier_bytes}
 use Rattle.book.specs.Tied.{Tied}
 use Rattle.book.proofs.Ties.{row_left}
 use Rattle.book.proofs.engine.Engine.tidy.Goals as goal

@@ -1,5 +1,5 @@
 use Rattle.std.proofs.Common.{Some, vec_items, sym, ap, ◌∙◌}
-use Rattle.directory.specs.declared.entries.Entry.{Entry}
+use Rattle.directory.specs.declared.entry.Entry.{Entry}
 use Rattle.directory.proofs.Standing.{row_none, row_stands, standing_number}
 use Rattle.directory.proofs.row_directory.RowDirectoryDirectory.find.Goals as goal
 

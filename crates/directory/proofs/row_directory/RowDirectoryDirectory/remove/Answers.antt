@@ -1,5 +1,5 @@
 use Rattle.std.proofs.Common.{suc, ◌++◌, get_or, take, drop, Some, vec_items, sym, ap, ◌∙◌}
-use Rattle.directory.specs.declared.entries.Entry.{Entry}
+use Rattle.directory.specs.declared.entry.Entry.{Entry}
 use Rattle.directory.specs.Entries.{number_in, distinct}
 use Rattle.directory.proofs.Distinct.{distinct_without}
 use Rattle.directory.proofs.Changes.{pair_others}

@@ -1,0 +1,34 @@
+-- Calls and answers as the rule book's.
+use Rattle.std.specs.Prelude.{List, map, Ok, Err, Result, vec_items}
+use Rattle.terms.specs.Made.{terms_of}
+use Rattle.rules.specs.declared.refusal.Refusal.{Refusal}
+use Rattle.rules.specs.Calls.{Call as RuleCall, entry, cancel, quote, tick}
+use Rattle.rules.specs.Answers.{Answer as RuleAnswer, entered, cancelled, quoted, ticked, refused}
+use Rattle.book.specs.declared.call.Call.{Call}
+use Rattle.book.specs.declared.call.Call.TheVariants.{Entry, Cancel, Quote, Tick}
+use Rattle.book.specs.declared.call.Answer.{Answer}
+use Rattle.book.specs.declared.call.Answer.TheVariants.{Entered, Cancelled, Quoted, Ticked, Refused}
+
+abbrev pub call_of : Call → RuleCall
+call_of (Entry time id ticket) = entry time (vec_items id) (terms_of ticket.terms)
+call_of (Cancel time id) = cancel time (vec_items id)
+call_of (Quote time q) = quote time q.bid q.offer
+call_of (Tick time) = tick time
+
+abbrev pub calls_of : List Call → List RuleCall
+calls_of cs = map call_of cs
+
+abbrev pub answer_of : Answer → RuleAnswer
+answer_of (Entered number traded lapsed) = entered number traded lapsed
+answer_of (Cancelled shares) = cancelled shares
+answer_of Quoted = quoted
+answer_of Ticked = ticked
+answer_of (Refused why) = refused why
+
+-- the answer of a call that may be refused
+abbrev pub told_of : Result Answer Refusal → RuleAnswer
+told_of (Ok a) = answer_of a
+told_of (Err why) = refused why
+
+abbrev pub answers_of : List Answer → List RuleAnswer
+answers_of zs = map answer_of zs

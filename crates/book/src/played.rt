@@ -1,0 +1,105 @@
+ghost use Rattle.std.specs.Prelude.{MatchResult, [], length, vec_capacity, ◌≡◌, ◌≤◌};
+ghost use Rattle.book.specs.Carried.{Carried};
+ghost use Rattle.book.specs.Opening.{HandedBack};
+ghost use Rattle.book.specs.Replayed.{Followed};
+ghost use Rattle.book.specs.Reran.{PlayedThrough};
+ghost use Rattle.book.specs.Told.{answer_of, call_of, told_of};
+
+use crate::book::Book;
+use crate::call::{Answer, Call};
+use crate::refusal::NotOpened;
+use crate::stage::Stage;
+use directory::Directory;
+use rules::Refusal;
+use std::alloc::{AllocError, Global};
+use tape::Tape;
+use terms::Quote;
+
+// The answers, in the calls' order, and the book after them.
+#[derive(Drop)]
+pub struct Played<D: Directory, T: Tape> {
+    pub answers: Vec<Answer>,
+    pub book: Book<D, T>,
+}
+
+// What the book answers to the call, or why it refuses it. An entry is made by a second ticket, so that the first stays where
+// it is.
+fn answer_or_refuse<D: Directory, T: Tape>(
+    book: &mut Book<D, T>,
+    call: &Call,
+) -> Result<Answer, Refusal>
+    ensures { Carried D.Directory T.Tape book.old.engine book.new.engine (call_of call.now) (told_of result) }
+{
+    Ok(match call {
+        Call::Entry { time, id, ticket } => {
+            let (number, traded, lapsed) = book.enter(*time, id, ticket.again())?;
+            Answer::Entered {
+                number,
+                traded,
+                lapsed,
+            }
+        }
+        Call::Cancel { time, id } => Answer::Cancelled(book.cancel(*time, id)?),
+        Call::Quote { time, quote } => {
+            book.quote(*time, *quote)?;
+            Answer::Quoted
+        }
+        Call::Tick { time } => {
+            book.tick(*time)?;
+            Answer::Ticked
+        }
+    })
+}
+
+// The call is made, and its answer told; the list of calls stays as it is.
+pub fn carry_out<D: Directory, T: Tape>(book: &mut Book<D, T>, call: &Call) -> Answer
+    ensures { Carried D.Directory T.Tape book.old.engine book.new.engine (call_of call.now) (answer_of result) }
+{
+    answer_or_refuse(book, call).unwrap_or_else(Answer::Refused)
+}
+
+// Opens a book and plays the calls on it. Where memory is wanting or the tape has lines, directory and tape come back as they
+// were, and no call has been made: all memory is had before the book is opened.
+pub fn play<D: Directory, T: Tape>(
+    heap: Global,
+    quote: Quote,
+    directory: D,
+    tape: T,
+    calls: &[Call],
+) -> Result<Played<D, T>, NotOpened<D, T>>
+    ensures { MatchResult result
+        (λ p. PlayedThrough quote.bid quote.offer tape calls.now p)
+        (λ e. HandedBack T.Tape directory tape e) }
+{
+    Ok(Stage::new(heap, quote, directory, tape, calls)?.play(calls))
+}
+
+// The answers, in the calls' order, where there is room for all of them.
+pub(crate) fn answer_each<D: Directory, T: Tape>(
+    book: &mut Book<D, T>,
+    calls: &[Call],
+    answers: &mut Vec<Answer>,
+)
+    requires none { answers.old.items ≡ [] }
+    requires room { length calls.now ≤ vec_capacity answers.old }
+    ensures { Followed book.old book.new calls.now answers.new.items }
+{
+    for call in calls {
+        answers.push_reserved(carry_out(book, call));
+    }
+}
+
+// The answers, in the calls' order. Room for all of them is had first; without it no call is made.
+pub fn replay<D: Directory, T: Tape>(
+    heap: Global,
+    book: &mut Book<D, T>,
+    calls: &[Call],
+) -> Result<Vec<Answer>, AllocError>
+    ensures { MatchResult result
+        (λ v. Followed book.old book.new calls.now v.items)
+        (λ _. book.new ≡ book.old) }
+{
+    let mut answers = Vec::with_capacity(heap, calls.len())?;
+    answer_each(book, calls, &mut answers);
+    Ok(answers)
+}

@@ -1,0 +1,11 @@
+-- The number that a day file tells of a refusal.
+use Rattle.std.specs.Prelude.{ℕ}
+use Rattle.terms.specs.Codes.{refusal_number as ticket_number}
+use Rattle.rules.specs.Answers.{refused, told}
+use Rattle.day_file.specs.declared.refused.Refused.{Refused}
+use Rattle.day_file.specs.declared.refused.Refused.TheVariants.{Unlawful, Book}
+
+-- of a ticket or a quote 1 to 6; of a call what the rule book tells, 7 to 13
+abbrev pub number_of : Refused → ℕ
+number_of (Unlawful why) = ticket_number why
+number_of (Book why) = (told (refused why)).number

@@ -1,0 +1,136 @@
+use crate::refused::Refused;
+use book::Explanation;
+use book_register::Slip;
+use itoa::Buffer;
+use market::{Figures, Standing, Why};
+use std::alloc::{AllocError, Global};
+use tape::Line;
+
+// Text that answers are gathered in until it is printed.
+#[derive(Drop)]
+pub struct Output {
+    bytes: Vec<u8>,
+}
+
+impl Output {
+    pub fn new(heap: Global) -> Output {
+        Output {
+            bytes: Vec::new(heap),
+        }
+    }
+
+    pub fn as_bytes(&self) -> &[u8] {
+        self.bytes.as_slice()
+    }
+
+    pub fn len(&self) -> usize {
+        self.bytes.len()
+    }
+
+    pub fn is_empty(&self) -> bool {
+        self.bytes.is_empty()
+    }
+
+    pub fn clear(&mut self) {
+        self.bytes.clear();
+    }
+
+    pub fn append(&mut self, other: &Output) -> Result<(), AllocError> {
+        self.bytes.extend_from_slice(other.as_bytes())
+    }
+
+    // A blank and a number in the decimal system.
+    fn number(&mut self, number: u64) -> Result<(), AllocError> {
+        let mut digits = Buffer::new();
+        self.bytes.push(b' ')?;
+        self.bytes
+            .extend_from_slice(digits.format(number).as_bytes())
+    }
+
+    fn numbers(&mut self, numbers: &[u64]) -> Result<(), AllocError> {
+        for number in numbers {
+            self.number(*number)?;
+        }
+        Ok(())
+    }
+
+    // A line of a word and numbers.
+    pub fn line(&mut self, word: &str, numbers: &[u64]) -> Result<(), AllocError> {
+        self.bytes.extend_from_slice(word.as_bytes())?;
+        self.numbers(numbers)?;
+        self.bytes.extend_from_slice(b"\n")
+    }
+
+    pub(crate) fn refused(&mut self, number: u8) -> Result<(), AllocError> {
+        self.line("refused", &[u64::from(number)])
+    }
+
+    // Number, layer and place of a fault, after the word.
+    pub(crate) fn slip(&mut self, word: &str, slip: Slip) -> Result<(), AllocError> {
+        let number = u64::from(slip.number);
+        let layer = u64::from(slip.layer);
+        self.line(word, &[number, layer, slip.place as u64])
+    }
+
+    // The word and the numbers of what was done, or the refusal.
+    pub(crate) fn answer<const N: usize>(
+        &mut self,
+        word: &str,
+        answer: Result<[u64; N], Refused>,
+    ) -> Result<(), AllocError> {
+        match answer {
+            Ok(numbers) => self.line(word, &numbers),
+            Err(why) => self.refused(why.number()),
+        }
+    }
+
+    pub(crate) fn standing(&mut self, standing: Option<Standing>) -> Result<(), AllocError> {
+        let Some(order) = standing else {
+            return self.line("nothing", &[]);
+        };
+        let number = u64::from(order.number);
+        let ranked = u64::from(order.ranked);
+        let reach = u64::from(order.reach);
+        let left = u64::from(order.left);
+        self.line("place", &[number, ranked, reach, left])
+    }
+
+    pub(crate) fn explanation(
+        &mut self,
+        explanation: Option<Explanation>,
+    ) -> Result<(), AllocError> {
+        let Some(told) = explanation else {
+            return self.line("nothing", &[]);
+        };
+        let ranked = u64::from(told.ranked);
+        let reach = u64::from(told.reach);
+        match told.why {
+            Why::NoMdo => self.line("plain", &[ranked]),
+            Why::AtLimit => self.line("at-limit", &[ranked]),
+            Why::AtMidpoint => self.line("at-midpoint", &[ranked]),
+            Why::Protected { line, until } => self.line("protected", &[ranked, line as u64, until]),
+            Why::Discretion => self.line("discretion", &[ranked, reach]),
+        }
+    }
+
+    pub(crate) fn trade(&mut self, line: Line) -> Result<(), AllocError> {
+        let mark = u64::from(u8::from(line.mark));
+        let partner = u64::from(line.partner);
+        let taker = u64::from(line.taker);
+        let shares = u64::from(line.shares);
+        let price = u64::from(line.price);
+        self.line("trade", &[line.time, partner, taker, shares, price, mark])
+    }
+
+    pub(crate) fn figures(&mut self, figures: Figures) -> Result<(), AllocError> {
+        self.line(
+            "closed",
+            &[
+                figures.buy.orders,
+                figures.buy.shares,
+                figures.sell.orders,
+                figures.sell.shares,
+            ],
+        )
+    }
+}

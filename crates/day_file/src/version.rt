@@ -1,0 +1,2 @@
+// Of the programs.
+pub const VERSION: &str = "1.0";

@@ -1,0 +1,33 @@
+use Rattle.std.proofs.Common.{vec_items, sym, ap, ◌∙◌}
+use Rattle.rules.specs.Market.{with_orders, lower}
+use Rattle.market.specs.Rows.{orders_in}
+use Rattle.market.specs.Seen.{market_with}
+use Rattle.market.proofs.Changed.{lower_at, lower_by_number, absent, rising_set, only_shares}
+use Rattle.market.proofs.table.Table.lower.Goals as goal
+
+pub invariant_of-self-clause-ascending : goal.invariant_of-self-clause-ascending
+invariant_of-self-clause-ascending c =
+    let self = c.args.self.now in
+    rising_set 0 (vec_items self.rows) c.in-Some.i c.index_mut-row.result.now c.saturating_sub-row.result c.index_mut-row.ensures.value ∙ self.ascending
+
+pub returns-in-Some : goal.returns-in-Some
+returns-in-Some c =
+    let self = c.args.self.now in
+    let rows = vec_items self.rows in
+    let row = c.index_mut-row.result.now in
+    let at = c.in-Some.ensures in
+    let is = c.index_mut-row.ensures.value in
+    let after = lower_at c.args.number c.args.shares rows c.in-Some.i row c.saturating_sub-row.result self.ascending at is c.saturating_sub-row.ensures in
+    record {
+      orders = after;
+      market = λ tape. ap (λ os. with_orders os (market_with tape self)) after;
+      rows = only_shares c.args.number rows c.in-Some.i row c.saturating_sub-row.result at is;
+    }
+
+pub returns-in_default-clause-orders : goal.returns-in_default-clause-orders
+returns-in_default-clause-orders c =
+    let k = c.args.number in
+    sym (absent k (lower k c.args.shares) (lower_by_number k c.args.shares) (orders_in (vec_items c.args.self.now.rows)) c.in_default.ensures)
+
+pub returns-in_default-clause-market : goal.returns-in_default-clause-market
+returns-in_default-clause-market c tape = ap (λ os. with_orders os (market_with tape c.args.self.now)) (returns-in_default-clause-orders c)

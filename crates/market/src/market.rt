@@ -1,0 +1,8 @@
+use crate::table::Table;
+use tape::Tape;
+
+#[derive(Drop)]
+pub struct Market<T: Tape> {
+    pub table: Table,
+    pub tape: T,
+}

@@ -1,0 +1,102 @@
+ghost use Rattle.std.specs.Prelude.{[], ◌++◌, ◌∷◌, ◌≡◌, ◌≤◌};
+ghost use Rattle.market.specs.Changes.{SameButShares};
+ghost use Rattle.market.specs.Markets.{CanJoin, Follows, HasRoom, capacity_of, market_of};
+ghost use Rattle.market.specs.Rounds.{swept_at, woken};
+ghost use Rattle.market.specs.Rows.{row_order};
+ghost use Rattle.rules.specs.Calls.{swept_in};
+ghost use Rattle.rules.specs.Limits.{last_moment};
+ghost use Rattle.rules.specs.Market.{those};
+ghost use Rattle.rules.specs.Sweep.{sweep as sweep_of, sweep_each as sweep_each_of, trade as trade_of};
+
+use crate::market::Market;
+use crate::row::Row;
+use tape::Tape;
+use terms::{Kind, Side};
+
+// What wakes the orders of a round: two named events, since whoever hands over a closure has to prove that it can be called.
+#[derive(Clone, Copy, PartialEq, Eq, Debug, Drop)]
+pub enum Round {
+    // the side's protection period has ended: its QDP orders
+    PeriodEnded(Side),
+    // the quote is new: the orders whose price follows it
+    QuoteChanged,
+}
+
+impl<T: Tape> Market<T> {
+    // One line between a taker and a partner.
+    fn line(&mut self, time: u64, price: u32, taker: &Row, partner: &Row)
+        ensures { Follows T.Tape self.old self.new time (trade_of time price (row_order taker.now) (row_order partner.now)) }
+    {
+        let line = self.table.trade(time, price, taker, partner);
+        let _ = self.tape.write(line);
+    }
+
+    // The order as taker at the time, at its present reach. One that rests no more is passed over. Each line ends an order, so as many
+    // turns as orders rest are enough.
+    pub fn sweep(&mut self, time: u64, taker: &Row)
+        ensures { Follows T.Tape self.old self.new time (sweep_of time (row_order taker.now)) }
+    {
+        let price = self.table.reach(taker);
+        // counted as in the rule book, whose sweep has so many turns
+        let turns = self.table.len_resting();
+        for _ in 0..turns {
+            let Some(row) = self.table.row(taker.number) else {
+                return;
+            };
+            let Some(partner) = self.table.partner_for(taker, price) else {
+                return;
+            };
+            self.line(time, price, &row, &partner);
+        }
+    }
+
+    // The row at an index is swept if the round wakes it.
+    fn sweep_row(&mut self, time: u64, round: Round, index: usize)
+        ensures { Follows T.Tape self.old self.new time (swept_at round time index self.old.table.rows.items) }
+    {
+        let Some(row) = self.table.row_at(index) else {
+            return;
+        };
+        if round.wakes(&row) {
+            self.sweep(time, &row);
+        }
+    }
+
+    // Every order that the round wakes is swept, as they rest when it begins; one that has left before its turn is swept in vain.
+    pub fn sweep_each(&mut self, time: u64, round: Round)
+        ensures { Follows T.Tape self.old self.new time (λ m. sweep_each_of time (those (woken round) m.orders) m) }
+    {
+        // by index, since each sweep changes rows
+        let rows = self.table.len();
+        for index in 0..rows {
+            self.sweep_row(time, round, index);
+        }
+    }
+
+    // The order joins those that rest, and is swept. Its row stays, also with no shares left.
+    pub fn sweep_in(&mut self, time: u64, row: Row)
+        ensures market { time ≤ last_moment → CanJoin self.old.table.rows.items row
+            → HasRoom T.Tape self.old (swept_in time (row_order row) (market_of T.Tape self.old))
+            → market_of T.Tape self.new ≡ swept_in time (row_order row) (market_of T.Tape self.old) }
+        ensures capacity { capacity_of T.Tape self.new ≡ capacity_of T.Tape self.old }
+        ensures rows { CanJoin self.old.table.rows.items row
+            → SameButShares (self.old.table.rows.items ++ (row ∷ [])) self.new.table.rows.items }
+    {
+        let _ = self.table.join(row);
+        self.sweep(time, &row);
+    }
+}
+
+impl Round {
+    fn wakes(self, row: &Row) -> bool
+        ensures { result ≡ woken self (row_order row.now) }
+    {
+        match self {
+            Round::PeriodEnded(side) => row.terms.qdp && row.terms.side == side,
+            Round::QuoteChanged => matches!(
+                row.terms.kind,
+                Kind::DisplayedMdo | Kind::HiddenMdo | Kind::MidpointPeg
+            ),
+        }
+    }
+}

@@ -1,0 +1,237 @@
+// The order table, with what the prices of its orders depend on.
+ghost use Rattle.std.specs.Prelude.{true, vec_capacity, vec_len, ◌≡◌, ◌≤◌};
+ghost use Rattle.market.specs.Rows.{rising};
+ghost use Rattle.market.specs.declared.table.NotJoined.{NotJoined};
+
+use crate::row::Row;
+use rules::MOST_RESTING;
+use std::alloc::{AllocError, Global};
+use terms::{Identifier, PerSide, Quote, Side, ranked_price, reach};
+
+// Rows stand by ascending entry number: 64 may rest, and one more may stand while it is being entered. The ends are those of
+// the sides' protection periods, where they run.
+#[derive(Drop)]
+pub struct Table {
+    pub(crate) rows: Vec<Row>,
+    pub(crate) quote: Quote,
+    pub(crate) ends: PerSide<Option<u64>>,
+    ghost room: { 65 ≤ vec_capacity rows },
+    ghost few: { vec_len rows ≤ 65 },
+    ghost ascending: { rising 0 rows.items ≡ true },
+}
+
+// How many rows stand at most: those that rest, and one that is being entered.
+pub(crate) const MOST_ROWS: usize = MOST_RESTING + 1;
+
+// Why a row is not added.
+#[derive(Clone, Copy, PartialEq, Eq, Debug, Drop)]
+pub enum NotJoined {
+    TableFull,
+    NumberNotRising,
+}
+
+impl Table {
+    ghost use Rattle.std.specs.Option.{option_map};
+    ghost use Rattle.std.specs.Prelude.{IfOk, IsOk, MatchOption, None, OnErr, [], if◌then◌else◌, is_ok, length, nat_lt, slice_index_or, take, ◌&&◌, ◌++◌, ◌+◌, ◌-◌, ◌<◌, ◌↔◌, ◌∷◌};
+    ghost use Rattle.market.specs.Changes.{AllRest, FirstSpent, OnlySharesOf, RestsAt, Retired, newest_number};
+    ghost use Rattle.market.specs.Rows.{orders_in, row_order};
+    ghost use Rattle.market.specs.Seen.{Becomes, seen};
+    ghost use Rattle.rules.specs.Calls.{joined};
+    ghost use Rattle.rules.specs.Market.{end_of, lower, period_runs as period_runs_of, ranked_in, reach_in, resting, with_end, with_orders, with_quote, without};
+    ghost use Rattle.rules.specs.Runs.{opened};
+
+    // An empty table, with room for all rows that it will ever hold. Fails only for want of memory.
+    pub fn open(heap: Global, quote: Quote) -> Result<Table, AllocError>
+        ensures { IfOk result (λ t. (t.rows.items ≡ []) × (t.quote ≡ quote) × (seen t ≡ (opened quote.bid quote.offer).market)) }
+    {
+        let rows = Vec::with_capacity(heap, MOST_ROWS)?;
+        Ok(Table {
+            rows,
+            quote,
+            ends: PerSide {
+                buy: None,
+                sell: None,
+            },
+        })
+    }
+
+    pub fn set_quote(&mut self, quote: Quote)
+        ensures quote { self.new.quote ≡ quote }
+        ensures market { Becomes self.old self.new (with_quote quote.bid quote.offer) }
+        ensures rows { self.new.rows ≡ self.old.rows }
+    {
+        self.quote = quote;
+    }
+
+    // Sets or clears the end of the side's protection period.
+    pub fn set_end(&mut self, side: Side, end: Option<u64>)
+        ensures market { Becomes self.old self.new (with_end side end) }
+        ensures rows { self.new.rows ≡ self.old.rows }
+    {
+        self.ends.set(side, end);
+    }
+
+    pub fn quote(&self) -> Quote
+        ensures { result ≡ self.now.quote }
+    {
+        self.quote
+    }
+
+    // When the side's protection period ends, where one runs.
+    pub fn end(&self, side: Side) -> Option<u64>
+        ensures { result ≡ end_of side (seen self.now) }
+    {
+        *self.ends.get(side)
+    }
+
+    // Whether the side's protection period runs.
+    pub fn period_runs(&self, side: Side) -> bool
+        ensures { result ≡ period_runs_of side (seen self.now) }
+    {
+        self.ends.get(side).is_some()
+    }
+
+    // The price at which the row's order stands, in half-cents.
+    pub fn ranked(&self, row: &Row) -> u32
+        ensures { result ≡ ranked_in (seen self.now) (row_order row.now) }
+    {
+        ranked_price(row.terms, self.quote)
+    }
+
+    // The price up to which it trades now, in half-cents.
+    pub fn reach(&self, row: &Row) -> u32
+        ensures { result ≡ reach_in (seen self.now) (row_order row.now) }
+    {
+        reach(row.terms, self.period_runs(row.terms.side), self.quote)
+    }
+
+    // How many rows stand, with shares left or without.
+    pub fn len(&self) -> usize
+        ensures { result ≡ length self.now.rows.items }
+    {
+        self.rows.len()
+    }
+
+    // All rows, with shares left or without.
+    pub fn rows(&self) -> &[Row]
+        ensures { result.now ≡ self.now.rows.items }
+    {
+        &self.rows
+    }
+
+    // The row at an index, from 0.
+    pub fn row_at(&self, index: usize) -> Option<Row>
+        ensures { MatchOption result (length self.now.rows.items ≤ index) (λ row. (index < length self.now.rows.items) × (row ≡ slice_index_or self.now.rows.items index row)) }
+    {
+        self.rows.get(index).copied()
+    }
+
+    // The index of the resting row with that entry number.
+    pub fn index_of(&self, number: u32) -> Option<usize>
+        ensures { MatchOption result
+            (resting number (orders_in self.now.rows.items) ≡ None)
+            (λ i. RestsAt self.now.rows.items number i) }
+    {
+        self.rows
+            .iter()
+            .position(|row| row.number == number && row.rests())
+    }
+
+    // The resting row with that entry number.
+    pub fn row(&self, number: u32) -> Option<Row>
+        ensures { option_map row_order result ≡ resting number (orders_in self.now.rows.items) }
+    {
+        let i = self.index_of(number)?;
+        Some(self.rows[i])
+    }
+
+    // How many orders rest.
+    pub fn len_resting(&self) -> usize
+        ensures { result ≡ length (orders_in self.now.rows.items) }
+    {
+        self.rows.iter().filter(|row| row.rests()).count()
+    }
+
+    // The highest entry number in the table, or 0.
+    fn newest(&self) -> u32
+        ensures { result ≡ newest_number 0 self.now.rows.items }
+    {
+        match self.rows.last() {
+            Some(row) => row.number,
+            None => 0,
+        }
+    }
+
+    // Adds a row. Refused exactly if the table is full or the entry number does not rise, and then nothing changes.
+    pub fn join(&mut self, row: Row) -> Result<(), NotJoined>
+        ensures full { result ≡ Err NotJoined.TableFull ↔ 65 ≤ vec_len self.old.rows }
+        ensures late { result ≡ Err NotJoined.NumberNotRising ↔ (vec_len self.old.rows < 65) × (row.number ≤ newest_number 0 self.old.rows.items) }
+        ensures accepted { is_ok result ≡ (nat_lt (vec_len self.old.rows) 65 && nat_lt (newest_number 0 self.old.rows.items) row.number) }
+        ensures rows { self.new.rows.items ≡ (if is_ok result then self.old.rows.items ++ (row ∷ []) else self.old.rows.items) }
+        ensures orders { IsOk result → 0 < row.left → orders_in self.new.rows.items ≡ orders_in self.old.rows.items ++ (row_order row ∷ []) }
+        ensures market { IsOk result → 0 < row.left → Becomes self.old self.new (joined (row_order row)) }
+        ensures refused { OnErr result (self.new ≡ self.old) }
+    {
+        if self.rows.len() >= MOST_ROWS {
+            return Err(NotJoined::TableFull);
+        }
+        if row.number <= self.newest() {
+            return Err(NotJoined::NumberNotRising);
+        }
+        self.rows.push_reserved(row);
+        Ok(())
+    }
+
+    // Drops the newest row, whether it rests or not; an empty table stays as it is.
+    pub fn drop_newest(&mut self)
+        ensures rows { self.new.rows.items ≡ take (length self.old.rows.items - 1) self.old.rows.items }
+        ensures market { Becomes self.old self.new (λ m. with_orders (without (newest_number 0 self.old.rows.items) m.orders) m) }
+    {
+        let _ = self.rows.pop();
+    }
+
+    // The resting order with that entry number has no shares left, so that it rests no more.
+    pub fn leave(&mut self, number: u32)
+        ensures orders { orders_in self.new.rows.items ≡ without number (orders_in self.old.rows.items) }
+        ensures market { Becomes self.old self.new (λ m. with_orders (without number m.orders) m) }
+        ensures rows { OnlySharesOf number self.old.rows.items self.new.rows.items }
+    {
+        if let Some(i) = self.index_of(number) {
+            let row = &mut self.rows[i];
+            row.left = 0;
+        }
+    }
+
+    // Lowers the resting order with that entry number; with no shares left it rests no more. No other row is touched.
+    pub fn lower(&mut self, number: u32, shares: u32)
+        ensures orders { orders_in self.new.rows.items ≡ lower number shares (orders_in self.old.rows.items) }
+        ensures market { Becomes self.old self.new (λ m. with_orders (lower number shares m.orders) m) }
+        ensures rows { OnlySharesOf number self.old.rows.items self.new.rows.items }
+    {
+        if let Some(i) = self.index_of(number) {
+            let row = &mut self.rows[i];
+            row.left = row.left.saturating_sub(shares);
+        }
+    }
+
+    // The index of the first row that rests no more.
+    fn first_spent(&self) -> Option<usize>
+        ensures { MatchOption result (AllRest self.now.rows.items) (λ i. FirstSpent self.now.rows.items i) }
+    {
+        self.rows.iter().position(|row| !row.rests())
+    }
+
+    // Drops the first row that rests no more and tells its identifier; where every row rests, nothing changes.
+    pub fn retire(&mut self) -> Option<Identifier>
+        ensures orders { orders_in self.new.rows.items ≡ orders_in self.old.rows.items }
+        ensures market { Becomes self.old self.new (λ m. m) }
+        ensures told { MatchOption result
+            ((self.new ≡ self.old) × AllRest self.old.rows.items)
+            (λ id. Retired self.old.rows.items self.new.rows.items id) }
+        ensures count { MatchOption result (vec_len self.new.rows ≡ vec_len self.old.rows) (λ _. vec_len self.new.rows + 1 ≡ vec_len self.old.rows) }
+    {
+        let i = self.first_spent()?;
+        let row = self.rows.remove(i);
+        Some(row.identifier)
+    }
+}

@@ -1,0 +1,73 @@
+ghost use Rattle.std.specs.Prelude.{List, [], ◌&&◌, ◌++◌, ◌∷◌, ◌≡◌, ◌≤◌};
+ghost use Rattle.market.specs.Changes.{SameButShares};
+ghost use Rattle.market.specs.Rows.{row_order};
+ghost use Rattle.market.specs.Seen.{Becomes, market_with, seen};
+ghost use Rattle.market.specs.Trading.{mark_if, protected_if};
+ghost use Rattle.rules.specs.Limits.{last_moment};
+ghost use Rattle.rules.specs.Market.{lower, with_orders};
+ghost use Rattle.rules.specs.Sweep.{depletes as depletes_of, side_mark, trade as trade_of};
+ghost use Rattle.tape.specs.declared.line.Line.{Line as TradeLine};
+
+use crate::row::Row;
+use crate::table::Table;
+use rules::{PROTECTION_PERIOD, ROUND_LOT};
+use tape::{Line, Mark};
+use terms::Side;
+
+// The mark of a line that depletes the side. A function, since neither type is of this crate.
+pub fn mark_of(side: Side) -> Mark
+    ensures { result ≡ side_mark side }
+{
+    match side {
+        Side::Buy => Mark::BidDepleted,
+        Side::Sell => Mark::OfferDepleted,
+    }
+}
+
+impl Table {
+    // Lowers the partner of a line, and tells whether that depletes its side's best display.
+    fn lower_partner(&mut self, partner: &Row, shares: u32) -> bool
+        ensures depletes { result ≡ depletes_of (seen self.old) (row_order partner.now) (lower partner.now.number shares (seen self.old).orders) }
+        ensures market { Becomes self.old self.new (λ m. with_orders (lower partner.now.number shares m.orders) m) }
+        ensures rows { SameButShares self.old.rows.items self.new.rows.items }
+    {
+        let side = partner.terms.side;
+        let ranked = self.ranked(partner);
+        let stood_best = partner.is_displayed() && self.is_best_displayed(side, ranked);
+        self.lower(partner.number, shares);
+        stood_best && self.displayed_shares(side, ranked) < u64::from(ROUND_LOT)
+    }
+
+    // Where the line depletes, it is marked, and the partner's side is protected from its time on.
+    fn protect_if(&mut self, depletes: bool, time: u64, side: Side) -> Mark
+        ensures mark { result ≡ mark_if depletes side }
+        ensures market { time ≤ last_moment → Becomes self.old self.new (protected_if depletes time side) }
+        ensures rows { SameButShares self.old.rows.items self.new.rows.items }
+    {
+        if !depletes {
+            return Mark::Nothing;
+        }
+        self.set_end(side, Some(time.saturating_add(PROTECTION_PERIOD)));
+        mark_of(side)
+    }
+
+    // One line at the time, for a taker at the price; the line is handed back for the tape.
+    pub fn trade(&mut self, time: u64, price: u32, taker: &Row, partner: &Row) -> Line
+        ensures market { time ≤ last_moment → (tape : List TradeLine) → market_with (tape ++ (result ∷ [])) self.new ≡ trade_of time price (row_order taker.now) (row_order partner.now) (market_with tape self.old) }
+        ensures rows { SameButShares self.old.rows.items self.new.rows.items }
+    {
+        let shares = partner.left.min(taker.left);
+        let line_price = self.line_price(price, partner);
+        let depletes = self.lower_partner(partner, shares);
+        self.lower(taker.number, shares);
+        let mark = self.protect_if(depletes, time, partner.terms.side);
+        Line {
+            time,
+            partner: partner.number,
+            taker: taker.number,
+            shares,
+            price: line_price,
+            mark,
+        }
+    }
+}

@@ -1,6 +1,0 @@
-use Rattle.rules.specs.Market.{ranked_in}
-use Rattle.orders.proofs.table.Table.ranked.Goals as goal
-
-pub returns : goal.returns
-unfolding ranked_in
-returns c = c.ranked_price.ensures

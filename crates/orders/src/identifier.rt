@@ -1,2 +1,0 @@
-// A whole identifier, kept by value.
-pub use terms::identifiers::Identifier;

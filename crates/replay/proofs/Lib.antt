@@ -1,2 +1,0 @@
-pub mod Follows
-pub mod Laws

@@ -1,9 +1,0 @@
-use Rattle.std.proofs.Common.{◌≡◌, ◌≤◌, length, take, vec_items, vec_len, vec_capacity}
-use Rattle.replay.specs.Replayed.{Followed}
-use Rattle.replay.proofs.replaying.answer_each.Given as goal
-
-abbrev pub invariant-loop-call : goal.invariant-loop-call
-invariant-loop-call g l =
-    (vec_len l.answers ≡ l.call-index)
-    × (length l.calls ≤ vec_capacity l.answers)
-    × Followed l.initial.book l.book (take l.call-index l.calls) (vec_items l.answers)

@@ -1,4 +1,0 @@
-pub mod Law
-pub mod Replayed
-pub mod Reran
-pub mod Told
