@@ -2,8 +2,6 @@
 -- has_place and accepted.
 use Rattle.std.proofs.Common.{◌≡◌, ℕ, ◌<◌, ◌≤◌, Bool, true, false, not, ◌&&◌, leb, List, length, is_some, Some, None, Ok, vec_items, Option, sym, refl, ap, ◌∙◌, subst, arith}
 use Rattle.std.specs.List.{AllByRecursion as Every}
-use Rattle.std.specs.Coded.{le_prop}
-use Rattle.std.proofs.Math.Logic.{∥∥₁_elim}
 use Rattle.std.proofs.lemmas.Bool.{leb-false}
 use Rattle.terms.specs.declared.time_in_force.TimeInForce.{TimeInForce}
 use Rattle.terms.specs.declared.time_in_force.TimeInForce.TheVariants.{Rest, ImmediateOrCancel}
@@ -69,19 +67,19 @@ module _ {D T : Type 0} (d : DirectoryOf D) (t : TapeOf T) (b mid : Engine D T) 
 
     newest_below : newest_number 0 (vec_items mid.market.table.rows) ≤ mid.entries
     newest_below =
-        ∥∥₁_elim there.reached le_prop (λ r.
+        let r = there.reached in
         let law = (numbers_ascend r.bid r.offer (capacity_of t mid.market) r.calls).1 in
         let all : Every (λ (o : Order). o.number ≤ mid.entries) here.market.orders =
         subst (λ (z : Book). Every (λ (o : Order). o.number ≤ z.entries) z.market.orders) (sym r.is) law
         in
         newest_counted 0 mid.entries (vec_items mid.market.table.rows) (omega arith)
-        (subst (λ (os : List Order). Every (λ (o : Order). o.number ≤ mid.entries) os) (sym brought.rests.orders) all))
+        (subst (λ (os : List Order). Every (λ (o : Order). o.number ≤ mid.entries) os) (sym brought.rests.orders) all)
 
     few_rest : length (vec_items mid.market.table.rows) < 65
     few_rest =
         let within : length here.market.orders ≤ most_resting =
-        ∥∥₁_elim there.reached le_prop (λ r.
-        subst (λ (z : Book). length z.market.orders ≤ most_resting) (sym r.is) (orders_within_places r.bid r.offer (capacity_of t mid.market) r.calls))
+        let r = there.reached in
+        subst (λ (z : Book). length z.market.orders ≤ most_resting) (sym r.is) (orders_within_places r.bid r.offer (capacity_of t mid.market) r.calls)
         in
         omega (arith, within, brought.rests.count)
 

@@ -2,8 +2,6 @@
 -- on by one call. Cite early for a refusal before the clock moves, begun_refused and begun for the start of a call, carried_on
 -- for its end.
 use Rattle.std.proofs.Common.{◌≡◌, ℕ, ◌+◌, ◌-◌, ◌≤◌, Bool, true, false, leb, List, [], ◌∷◌, ◌++◌, length, Some, None, Ok, Err, vec_items, Result, sym, refl, ap, ◌∙◌, subst, arith}
-use Rattle.std.specs.Coded.{le_prop}
-use Rattle.std.proofs.Math.Logic.{∥∥₁_map, ∥∥₁_elim}
 use Rattle.std.proofs.lemmas.Bool.{leb-true, and_parts}
 use Rattle.tape.specs.declared.tape.Tape.{Ghosts as TapeOf}
 use Rattle.directory.specs.declared.directory.Directory.{Ghosts as DirectoryOf}
@@ -20,7 +18,7 @@ use Rattle.rules.proofs.Runs.{run_push}
 use Rattle.rules.proofs.Lasting.{call_untimely, call_short, call_done, at_time_clock}
 use Rattle.rules.proofs.Count.{lines_within_orders}
 use Rattle.market.specs.Changes.{AllRest}
-use Rattle.market.specs.Markets.{market_of, capacity_of, HasRoom}
+use Rattle.market.specs.Markets.{market_of, capacity_of, HasRoom, CanFollow}
 use Rattle.book.specs.declared.engine.Engine.{Engine}
 use Rattle.book.specs.Books.{book_of, BookTied, Reached, Sound}
 use Rattle.book.specs.Carried.{outcome_of, Carried, Tidied, Brought, Begun, time_and_tape, tick_answer}
@@ -76,9 +74,9 @@ module _ {D T : Type 0} (d : DirectoryOf D) (t : TapeOf T) where
   lines_few : (b : Engine D T) (c : Call) → Sound d t b → length (outcome_of t b c).book.market.tape ≤ length (t.lines b.market.tape) + length (book_of t b).market.orders
   lines_few b c sound =
       let free = t.free b.market.tape in
-      ∥∥₁_elim sound.reached le_prop (λ r.
+      let r = sound.reached in
       subst (λ (z : Book). length (call free c z).book.market.tape ≤ length z.market.tape + length z.market.orders) (sym r.is)
-      (lines_within_orders r.bid r.offer (capacity_of t b.market) free r.calls c))
+      (lines_within_orders r.bid r.offer (capacity_of t b.market) free r.calls c)
 
   -- the lines that settling writes find room
   settle_room : (b : Engine D T) (c : Call) → Sound d t b → Passed (t.free b.market.tape) c (book_of t b) → HasRoom t b.market (settle (time_of c) (market_of t b.market))
@@ -94,7 +92,7 @@ module _ {D T : Type 0} (d : DirectoryOf D) (t : TapeOf T) where
       record {
         answer = answer;
         book = book;
-        sound = record { tied = tied; rests = rests; reached = ∥∥₁_map sound.reached further };
+        sound = record { tied = tied; rests = rests; reached = further sound.reached };
         capacity = capacity;
         room = same_room;
       }
@@ -126,15 +124,19 @@ module _ {D T : Type 0} (d : DirectoryOf D) (t : TapeOf T) where
       let free = t.free b.market.tape in
       early b c why (judged free c (book_of t b) (Err why) (e ∙ ap (λ n. time_and_tape free n (book_of t b)) (sym at)) lawful) sound
 
-  -- the clock comes to the time, if the tests pass
+  -- if the tests pass, the clock may come to the time
+  pub can_settle : (b : Engine D T) (time : ℕ) → Ok tt ≡ time_and_tape (t.free b.market.tape) time (book_of t b) → Sound d t b → CanFollow t b.market time (settle time)
+  can_settle b time e sound =
+      let passed = judged (t.free b.market.tape) (tick time) (book_of t b) (Ok tt) e in
+      record { day = leb-true time last_moment (and_parts (leb b.clock time) (leb time last_moment) passed.time).1; room = settle_room b (tick time) sound passed }
+
+  -- the clock comes to the time
   pub begun : (b after : Engine D T) (time : ℕ) → Ok tt ≡ time_and_tape (t.free b.market.tape) time (book_of t b) → Sound d t b
-      → (time ≤ last_moment → HasRoom t b.market (settle time (market_of t b.market)) → book_of t after ≡ at_time time (book_of t b))
+      → book_of t after ≡ at_time time (book_of t b)
       → Tidied d t b after → Brought d t b after time
-  begun b after time e sound brings tidied =
+  begun b after time e sound there tidied =
       let free = t.free b.market.tape in
-      let passed = judged free (tick time) (book_of t b) (Ok tt) e in
-      let day = leb-true time last_moment (and_parts (leb b.clock time) (leb time last_moment) passed.time).1 in
-      let there = brings day (settle_room b (tick time) sound passed) in
+      let day = (can_settle b time e sound).day in
       let ready = λ (c : Call) (at : time_of c ≡ time).
       judged free c (book_of t b) (Ok tt) (e ∙ ap (λ n. time_and_tape free n (book_of t b)) (sym at))
       in

@@ -9,4 +9,5 @@ pub mod Kept
 pub mod Laws
 pub mod Named
 pub mod Opened
+pub mod Runs
 pub mod Ties

@@ -16,7 +16,6 @@ use Rattle.market.proofs.Retired.{rests_none}
 use Rattle.book.specs.declared.engine.Engine.{Engine}
 use Rattle.book.specs.Tied.{Tied, number_named}
 use Rattle.book.specs.Books.{book_of, Sound}
-use Rattle.book.specs.Opening.{New}
 use Rattle.book.proofs.Alike.{same_book}
 
 pub empty_tape : (ls : List Line) → is_some (at_place ls 1) ≡ false → ls ≡ []
@@ -39,18 +38,15 @@ module _ {D T : Type 0} (d : DirectoryOf D) (t : TapeOf T) (directory : D) (tape
     as_opened : book_of t fresh ≡ opened bid offer
     as_opened = same_book (ap (λ ls. market_with ls table) empty ∙ market) refl refl
 
-    pub new_book : New t bid offer tape fresh
-    new_book = record { book = as_opened; own_tape = refl }
-
     pub new_sound : Emptied (d.number directory) (d.count directory) → vec_items table.rows ≡ [] → Sound d t fresh
     new_sound emptied no_rows =
         record {
           tied = subst (λ (rs : List Row). Tied (d.number directory) (d.count directory) rs) (sym no_rows) (tied_none (d.number directory) (d.count directory) emptied);
           rests = subst (λ (rs : List Row). AllRest rs) (sym no_rows) rests_none;
-          reached = ∣ record {
+          reached = record {
             bid = bid;
             offer = offer;
             calls = [];
             is = as_opened ∙ sym (nothing_run (length (t.lines tape) + t.free tape) (opened bid offer));
-          } ∣₁;
+          };
         }

@@ -28,7 +28,7 @@ pub record Reached {D T : Type 0} (t : TapeOf T) (b : Engine D T) : Type 0 where
 pub record Sound {D T : Type 0} (d : DirectoryOf D) (t : TapeOf T) (b : Engine D T) : Type 0 where
   pub tied : BookTied d b
   pub rests : AllRest (vec_items b.market.table.rows)
-  pub reached : ∥ Reached t b ∥₁
+  pub reached : Reached t b
 
 -- the book knows how many lines its tape has room for, written and free
 abbrev pub KnowsRoom : {D T : Type 0} → TapeOf T → Engine D T → Type 0

@@ -6,7 +6,7 @@ use Rattle.rules.specs.declared.refusal.Refusal.{Refusal}
 use Rattle.rules.specs.declared.refusal.Refusal.TheVariants.{Time, TapeShort}
 use Rattle.rules.specs.Limits.{last_moment}
 use Rattle.rules.specs.Market.{Book}
-use Rattle.rules.specs.Answers.{Answer, entered, cancelled, quoted, ticked, refused, refusal_number, Told, told}
+use Rattle.rules.specs.Answers.{Answer, entered, cancelled, quoted, ticked, refused, refusal_number, Told}
 use Rattle.rules.specs.Calls.{Call, Outcome, call, done_at, time_of, names_lawfully}
 use Rattle.market.specs.Changes.{AllRest}
 use Rattle.market.specs.Markets.{capacity_of, HasRoom}
@@ -17,10 +17,6 @@ use Rattle.book.specs.Books.{book_of, BookTied, Sound}
 -- what the rule book makes of a call, with the lines that are free on the tape
 abbrev pub outcome_of : {D T : Type 0} → TapeOf T → Engine D T → Call → Outcome
 outcome_of t b c = call (t.free b.market.tape) c (book_of t b)
-
--- the number and the values that the rule book tells of a call
-abbrev pub told_of : {D T : Type 0} → TapeOf T → Engine D T → Call → Told
-told_of t b c = told (outcome_of t b c).answer
 
 pub record Carried {D T : Type 0} (d : DirectoryOf D) (t : TapeOf T) (before after : Engine D T) (c : Call) (a : Answer) : Type 0 where
   pub answer : a ≡ (outcome_of t before c).answer

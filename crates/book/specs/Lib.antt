@@ -3,10 +3,10 @@ pub mod Carried
 pub mod Entering
 pub mod Explaining
 pub mod Law
-pub mod Once
 pub mod Opening
 pub mod Preparing
 pub mod Replayed
 pub mod Reran
+pub mod Running
 pub mod Tied
 pub mod Told

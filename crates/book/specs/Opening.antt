@@ -1,17 +1,9 @@
 -- A new book, and why there is none.
-use Rattle.std.specs.Prelude.{◌≡◌, ℕ, []}
+use Rattle.std.specs.Prelude.{◌≡◌, []}
 use Rattle.tape.specs.declared.tape.Tape.{Ghosts as TapeOf}
-use Rattle.rules.specs.Runs.{opened}
-use Rattle.book.specs.declared.engine.Engine.{Engine}
 use Rattle.book.specs.declared.refusal.OpenRefusal.{OpenRefusal}
 use Rattle.book.specs.declared.refusal.OpenRefusal.TheVariants.{TapeUsed, NoMemory}
 use Rattle.book.specs.declared.refusal.NotOpened.{NotOpened}
-use Rattle.book.specs.Books.{book_of}
-
--- a book on an empty tape, as the rule book opens it
-pub record New {D T : Type 0} (t : TapeOf T) (bid offer : ℕ) (tape : T) (b : Engine D T) : Type 0 where
-  pub book : book_of t b ≡ opened bid offer
-  pub own_tape : b.market.tape ≡ tape
 
 -- a used tape is refused before memory is asked for
 abbrev pub Because : {T : Type 0} → TapeOf T → T → OpenRefusal → Type 0

@@ -15,7 +15,7 @@ use Rattle.book.specs.Told.{calls_of}
 use Rattle.book.specs.Replayed.{run_of}
 
 -- a new book, at a quote and on an empty tape, has played the calls
-pub record PlayedThrough {D T : Type 0} {d : DirectoryOf D} {t : TapeOf T} (bid offer : ℕ) (tape : T) (calls : List Call) (p : Played D T d t) : Type 0 where
+pub record PlayedThrough {D T : Type 0} (t : TapeOf T) (bid offer : ℕ) (tape : T) (calls : List Call) (p : Played D T) : Type 0 where
   pub empty : t.lines tape ≡ []
   pub ran : run_of (vec_items p.answers) p.book ≡ run (t.free tape) (calls_of calls) (opened bid offer)
 

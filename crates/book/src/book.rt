@@ -1,5 +1,16 @@
-ghost use Rattle.book.specs.Books.{KnowsRoom, Sound};
-ghost use Rattle.book.specs.Once.{Sound-prop};
+ghost use Rattle.std.specs.Option.{option_map};
+ghost use Rattle.std.specs.Prelude.{IfErr, MatchOption, MatchResult, None, [], length, map, ◌-◌, ◌≡◌};
+ghost use Rattle.book.specs.Carried.{cancel_answer, cancel_numbers, entry_numbers, entry_told, plain_numbers, quote_answer, tick_answer};
+ghost use Rattle.book.specs.Explaining.{Explained};
+ghost use Rattle.book.specs.Opening.{HandedBack};
+ghost use Rattle.book.specs.Running.{Reached, after, answer_to, new_on, told_of};
+ghost use Rattle.market.specs.Meant.{figures_as, standing_as};
+ghost use Rattle.market.specs.Rows.{row_order};
+ghost use Rattle.roll.specs.Rolls.{at_place};
+ghost use Rattle.rules.specs.Calls.{cancel as cancel_of, entry as entry_of, named, quote as quote_of, tick as tick_of};
+ghost use Rattle.rules.specs.Laws.{DiscretionExplained};
+ghost use Rattle.rules.specs.Questions.{Answered, closing};
+ghost use Rattle.terms.specs.Made.{terms_of};
 
 use crate::engine::Engine;
 use crate::explanation::Explanation;
@@ -9,6 +20,7 @@ use directory::Directory;
 use market::{Figures, Market, Row, Standing, ask, explain, figures_of};
 use rules::Refusal;
 use std::alloc::Global;
+use std::marker::Model;
 use tape::{Line, Tape};
 use terms::{Quote, Ticket};
 
@@ -16,25 +28,20 @@ use terms::{Quote, Ticket};
 #[derive(Drop)]
 pub struct Book<D: Directory, T: Tape> {
     pub(crate) engine: Engine<D, T>,
-    pub ghost sound: { Sound D.Directory T.Tape engine } by { Sound-prop D.Directory T.Tape engine },
-    pub ghost knows_room: { KnowsRoom T.Tape engine },
+}
+
+impl<D: Directory, T: Tape> Model for Book<D, T> {
+    ghost use Rattle.book.specs.Running.{Running, running};
+    ghost use Rattle.book.specs.Books.{Sound, KnowsRoom};
+
+    ghost Value = { Running };
+
+    ghost view = { λ b. running T.Tape b.engine };
+
+    ghost invariant = { λ b. Sound D.Directory T.Tape b.engine × KnowsRoom T.Tape b.engine };
 }
 
 impl<D: Directory, T: Tape> Book<D, T> {
-    ghost use Rattle.std.specs.Option.{option_map};
-    ghost use Rattle.std.specs.Prelude.{IfErr, MatchOption, MatchResult, None, length, map, ◌≡◌};
-    ghost use Rattle.book.specs.Books.{book_of};
-    ghost use Rattle.book.specs.Carried.{Carried, cancel_answer, cancel_numbers, entry_numbers, entry_told, plain_numbers, quote_answer, tick_answer, told_of};
-    ghost use Rattle.book.specs.Explaining.{Explained};
-    ghost use Rattle.book.specs.Opening.{HandedBack, New};
-    ghost use Rattle.market.specs.Meant.{figures_as, standing_as};
-    ghost use Rattle.market.specs.Rows.{row_order};
-    ghost use Rattle.roll.specs.Rolls.{at_place};
-    ghost use Rattle.rules.specs.Calls.{cancel as cancel_of, entry as entry_of, named, quote as quote_of, tick as tick_of};
-    ghost use Rattle.rules.specs.Laws.{DiscretionExplained};
-    ghost use Rattle.rules.specs.Questions.{Answered, closing};
-    ghost use Rattle.terms.specs.Made.{terms_of};
-
     // A book with nothing in it, on an emptied directory and an empty tape.
     pub fn open(
         heap: Global,
@@ -43,7 +50,7 @@ impl<D: Directory, T: Tape> Book<D, T> {
         tape: T,
     ) -> Result<Book<D, T>, NotOpened<D, T>>
         ensures { MatchResult result
-            (λ b. New T.Tape quote.bid quote.offer tape b.engine)
+            (λ b. (T.Tape.lines tape ≡ []) × (b ≡ new_on (T.Tape.free tape) quote.bid quote.offer))
             (λ e. HandedBack T.Tape directory tape e) }
     {
         Ok(Prepared::new(heap, quote, directory, tape)?.open())
@@ -57,8 +64,9 @@ impl<D: Directory, T: Tape> Book<D, T> {
         id: &[u8],
         ticket: Ticket,
     ) -> Result<(u32, u32, u32), Rejected>
-        ensures carried { Carried D.Directory T.Tape self.old.engine self.new.engine (entry_of time id.now (terms_of ticket.terms)) (entry_told result) }
-        ensures told { entry_numbers result ≡ told_of T.Tape self.old.engine (entry_of time id.now (terms_of ticket.terms)) }
+        ensures answer { entry_told result ≡ answer_to self.old (entry_of time id.now (terms_of ticket.terms)) }
+        ensures told { entry_numbers result ≡ told_of self.old (entry_of time id.now (terms_of ticket.terms)) }
+        ensures book { self.new ≡ after self.old (entry_of time id.now (terms_of ticket.terms)) }
         ensures handed_back { IfErr result (λ e. e.ticket ≡ ticket) }
     {
         let terms = ticket.terms();
@@ -68,31 +76,34 @@ impl<D: Directory, T: Tape> Book<D, T> {
 
     // The shares that were left of the order that the identifier names. Refused as Identifier, Time, TapeShort or NoSuchOrder.
     pub fn cancel(&mut self, time: u64, id: &[u8]) -> Result<u32, Refusal>
-        ensures carried { Carried D.Directory T.Tape self.old.engine self.new.engine (cancel_of time id.now) (cancel_answer result) }
-        ensures told { cancel_numbers result ≡ told_of T.Tape self.old.engine (cancel_of time id.now) }
+        ensures answer { cancel_answer result ≡ answer_to self.old (cancel_of time id.now) }
+        ensures told { cancel_numbers result ≡ told_of self.old (cancel_of time id.now) }
+        ensures book { self.new ≡ after self.old (cancel_of time id.now) }
     {
         self.engine.cancel(time, id)
     }
 
     // The quote is replaced, and the orders that follow it are swept. Refused as Time or TapeShort.
     pub fn quote(&mut self, time: u64, quote: Quote) -> Result<(), Refusal>
-        ensures carried { Carried D.Directory T.Tape self.old.engine self.new.engine (quote_of time quote.bid quote.offer) (quote_answer result) }
-        ensures told { plain_numbers result ≡ told_of T.Tape self.old.engine (quote_of time quote.bid quote.offer) }
+        ensures answer { quote_answer result ≡ answer_to self.old (quote_of time quote.bid quote.offer) }
+        ensures told { plain_numbers result ≡ told_of self.old (quote_of time quote.bid quote.offer) }
+        ensures book { self.new ≡ after self.old (quote_of time quote.bid quote.offer) }
     {
         self.engine.quote(time, quote)
     }
 
     // Refused as Time or TapeShort.
     pub fn tick(&mut self, time: u64) -> Result<(), Refusal>
-        ensures carried { Carried D.Directory T.Tape self.old.engine self.new.engine (tick_of time) (tick_answer result) }
-        ensures told { plain_numbers result ≡ told_of T.Tape self.old.engine (tick_of time) }
+        ensures answer { tick_answer result ≡ answer_to self.old (tick_of time) }
+        ensures told { plain_numbers result ≡ told_of self.old (tick_of time) }
+        ensures book { self.new ≡ after self.old (tick_of time) }
     {
         self.engine.advance(time)
     }
 
     // What stands on a side, told by its code (1 buy, 2 sell), at a place in rank, from 1; None where nothing does.
     pub fn ask(&self, side: u8, place: usize) -> Option<Standing>
-        ensures { Answered (book_of T.Tape self.now.engine).market side place (option_map standing_as result) }
+        ensures { Answered self.now.book.market side place (option_map standing_as result) }
     {
         ask(&self.engine.market.table, side, place)
     }
@@ -100,8 +111,8 @@ impl<D: Directory, T: Tape> Book<D, T> {
     // Why the resting order that the identifier names reaches as far as it does; None where it names none.
     pub fn why(&self, id: &[u8]) -> Option<Explanation>
         ensures { MatchOption result
-            (named id.now (book_of T.Tape self.now.engine).market.orders ≡ None)
-            (λ e. Explained (book_of T.Tape self.now.engine) id.now e) }
+            (named id.now self.now.book.market.orders ≡ None)
+            (λ e. Explained self.now.book id.now e) }
     {
         let engine = &self.engine;
         let table = &engine.market.table;
@@ -117,17 +128,17 @@ impl<D: Directory, T: Tape> Book<D, T> {
     }
 
     // The rows of the orders that rest, lowest entry number first. The tape explains the discretion of each MDO among them.
-    #[tactic(auto, using(crate::proofs::Explains::discretion_explained))]
     pub fn resting_orders(&self) -> &[Row]
-        ensures rows { map row_order result.now ≡ (book_of T.Tape self.now.engine).market.orders }
-        ensures explained { DiscretionExplained (book_of T.Tape self.now.engine) }
+        ensures rows { map row_order result.now ≡ self.now.book.market.orders }
+        ensures reached { Reached self.now }
+        ensures explained { DiscretionExplained self.now.book }
     {
         self.engine.market.table.rows()
     }
 
     // How many lines stand on the tape.
     pub fn lines(&self) -> usize
-        ensures { result ≡ length (book_of T.Tape self.now.engine).market.tape }
+        ensures { result ≡ length self.now.book.market.tape }
     {
         let free = self.engine.market.tape.free_lines();
         self.engine.room.saturating_sub(free)
@@ -135,16 +146,16 @@ impl<D: Directory, T: Tape> Book<D, T> {
 
     // The line at a place of the tape, the oldest at 1.
     pub fn line(&self, place: usize) -> Option<Line>
-        ensures { result ≡ at_place (book_of T.Tape self.now.engine).market.tape place }
+        ensures { result ≡ at_place self.now.book.market.tape place }
     {
         self.engine.market.tape.read(place)
     }
 
     // The book is no more; its figures are told, and directory and tape handed back.
     pub fn close(self) -> (Figures, D, T)
-        ensures figures { figures_as result.0 ≡ closing (book_of T.Tape self.engine).market }
-        ensures directory { result.1 ≡ self.engine.directory }
-        ensures tape { result.2 ≡ self.engine.market.tape }
+        ensures figures { figures_as result.0 ≡ closing self.book.market }
+        ensures lines { T.Tape.lines result.2 ≡ self.book.market.tape }
+        ensures free { T.Tape.free result.2 ≡ self.room - length self.book.market.tape }
     {
         let Engine {
             directory,

@@ -37,8 +37,8 @@ pub fn rerun<D: Directory, T: Tape, E: Directory, U: Tape>(
     other_tape: U,
     other_calls: &[Call],
 ) -> Result<(Played<D, T>, Played<E, U>), NotRerun<D, T, E, U>>
-    ensures first { IfOk result (λ p. PlayedThrough quote.bid quote.offer tape calls.now p.0) }
-    ensures second { IfOk result (λ p. PlayedThrough quote.bid quote.offer other_tape other_calls.now p.1) }
+    ensures first { IfOk result (λ p. PlayedThrough T.Tape quote.bid quote.offer tape calls.now p.0) }
+    ensures second { IfOk result (λ p. PlayedThrough U.Tape quote.bid quote.offer other_tape other_calls.now p.1) }
     ensures law { IfOk result (λ p. Law (calls_of calls.now) (run_of p.0.answers.items p.0.book) (calls_of other_calls.now) (run_of p.1.answers.items p.1.book)) }
     ensures handed_back { IfErr result (λ e. AllHandedBack T.Tape U.Tape directory tape other_directory other_tape e) }
 {

@@ -1,14 +1,13 @@
 // What a book is made of: a directory, the market, the clock and the count of entries.
-ghost use Rattle.std.specs.Prelude.{MatchResult, false, true, ◌≡◌, ◌≤◌};
+ghost use Rattle.std.specs.Prelude.{MatchResult, false, true, ◌≡◌};
 ghost use Rattle.book.specs.Books.{BookTied, Sound, book_of};
 ghost use Rattle.book.specs.Carried.{Begun, Carried, Tidied, cancel_answer, entry_answer, quote_answer, time_and_tape};
 ghost use Rattle.book.specs.Entering.{Entered, HasPlace, Ready, entry_test};
 ghost use Rattle.market.specs.Changes.{AllRest};
-ghost use Rattle.market.specs.Markets.{HasRoom, market_of};
+ghost use Rattle.market.specs.Markets.{CanFollow, market_of};
 ghost use Rattle.market.specs.Rows.{identifier_bytes, row_order};
 ghost use Rattle.rules.specs.Calls.{cancel as cancel_of, entry as entry_of, left_of, no_place, quote as quote_of, rested, swept_in};
 ghost use Rattle.rules.specs.Clock.{at_time, settle};
-ghost use Rattle.rules.specs.Limits.{last_moment};
 ghost use Rattle.rules.specs.Market.{resting, with_orders, without};
 ghost use Rattle.rules.specs.declared.refusal.Refusal.TheVariants.{Identifier as RefusedIdentifier};
 ghost use Rattle.terms.specs.Identifiers.{lawful_identifier};
@@ -49,7 +48,8 @@ impl<D: Directory, T: Tape> Engine<D, T> {
 
     // The start of every call.
     pub(crate) fn advance(&mut self, time: u64) -> Result<(), Refusal>
-        ensures { Sound D.Directory T.Tape self.old → Begun D.Directory T.Tape self.old self.new time result }
+        requires { Sound D.Directory T.Tape self.old }
+        ensures { Begun D.Directory T.Tape self.old self.new time result }
     {
         self.check(time)?;
         self.bring_to(time);
@@ -58,8 +58,8 @@ impl<D: Directory, T: Tape> Engine<D, T> {
 
     // Every period that is due has ended, at its own end, and what rests no more has left.
     pub(crate) fn bring_to(&mut self, time: u64)
-        ensures book { time ≤ last_moment → HasRoom T.Tape self.old.market (settle time (market_of T.Tape self.old.market))
-            → book_of T.Tape self.new ≡ at_time time (book_of T.Tape self.old) }
+        requires { CanFollow T.Tape self.old.market time (settle time) }
+        ensures book { book_of T.Tape self.new ≡ at_time time (book_of T.Tape self.old) }
         ensures tidied { Tidied D.Directory T.Tape self.old self.new }
     {
         self.market.settle(time);
@@ -89,8 +89,9 @@ impl<D: Directory, T: Tape> Engine<D, T> {
 
     // The entry number that the order gets; the refusals are those that come once the clock is at the entry's time.
     pub(crate) fn admit(&self, id: &[u8], terms: Terms) -> Result<u32, Refusal>
-        ensures { BookTied D.Directory self.now → AllRest self.now.market.table.rows.items
-            → result ≡ entry_test id.now (terms_of terms) (book_of T.Tape self.now) }
+        requires tied { BookTied D.Directory self.now }
+        requires rests { AllRest self.now.market.table.rows.items }
+        ensures { result ≡ entry_test id.now (terms_of terms) (book_of T.Tape self.now) }
     {
         if self.directory.find(id).is_some() {
             return Err(Refusal::NameTaken);
@@ -106,8 +107,9 @@ impl<D: Directory, T: Tape> Engine<D, T> {
 
     // The new order is swept, and what is left of it rests under its identifier.
     pub(crate) fn sweep_and_rest(&mut self, time: u64, row: Row) -> (u32, u32, u32)
-        ensures { Ready D.Directory T.Tape self.old time row → HasPlace D.Directory self.old row
-            → Entered D.Directory T.Tape self.old self.new (rested Rest time row.number row.left (swept_in time (row_order row) (market_of T.Tape self.old.market))) result }
+        requires ready { Ready D.Directory T.Tape self.old time row }
+        requires place { HasPlace D.Directory self.old row }
+        ensures { Entered D.Directory T.Tape self.old self.new (rested Rest time row.number row.left (swept_in time (row_order row) (market_of T.Tape self.old.market))) result }
     {
         let _ = self.directory.put(row.identifier.as_bytes(), row.number);
         self.market.sweep_in(time, row);
@@ -118,8 +120,8 @@ impl<D: Directory, T: Tape> Engine<D, T> {
 
     // The new order is swept, and what is left of it lapses.
     pub(crate) fn sweep_and_lapse(&mut self, time: u64, row: Row) -> (u32, u32, u32)
-        ensures { Ready D.Directory T.Tape self.old time row
-            → Entered D.Directory T.Tape self.old self.new (rested ImmediateOrCancel time row.number row.left (swept_in time (row_order row) (market_of T.Tape self.old.market))) result }
+        requires { Ready D.Directory T.Tape self.old time row }
+        ensures { Entered D.Directory T.Tape self.old self.new (rested ImmediateOrCancel time row.number row.left (swept_in time (row_order row) (market_of T.Tape self.old.market))) result }
     {
         self.market.sweep_in(time, row);
         let left = self.shares_left(row.number);
@@ -135,7 +137,8 @@ impl<D: Directory, T: Tape> Engine<D, T> {
         id: &[u8],
         terms: Terms,
     ) -> Result<(u32, u32, u32), Refusal>
-        ensures { Sound D.Directory T.Tape self.old → Carried D.Directory T.Tape self.old self.new (entry_of time id.now (terms_of terms)) (entry_answer result) }
+        requires { Sound D.Directory T.Tape self.old }
+        ensures { Carried D.Directory T.Tape self.old self.new (entry_of time id.now (terms_of terms)) (entry_answer result) }
     {
         let identifier = kept_identifier(id)?;
         self.advance(time)?;
@@ -175,7 +178,8 @@ impl<D: Directory, T: Tape> Engine<D, T> {
     }
 
     pub(crate) fn cancel(&mut self, time: u64, id: &[u8]) -> Result<u32, Refusal>
-        ensures { Sound D.Directory T.Tape self.old → Carried D.Directory T.Tape self.old self.new (cancel_of time id.now) (cancel_answer result) }
+        requires { Sound D.Directory T.Tape self.old }
+        ensures { Carried D.Directory T.Tape self.old self.new (cancel_of time id.now) (cancel_answer result) }
     {
         if !lawful_identifier(id) {
             return Err(Refusal::Identifier);
@@ -189,7 +193,8 @@ impl<D: Directory, T: Tape> Engine<D, T> {
     }
 
     pub(crate) fn quote(&mut self, time: u64, quote: Quote) -> Result<(), Refusal>
-        ensures { Sound D.Directory T.Tape self.old → Carried D.Directory T.Tape self.old self.new (quote_of time quote.bid quote.offer) (quote_answer result) }
+        requires { Sound D.Directory T.Tape self.old }
+        ensures { Carried D.Directory T.Tape self.old self.new (quote_of time quote.bid quote.offer) (quote_answer result) }
     {
         self.advance(time)?;
         self.market.requote(time, quote);

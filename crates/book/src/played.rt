@@ -1,8 +1,8 @@
 ghost use Rattle.std.specs.Prelude.{MatchResult, [], length, vec_capacity, ◌≡◌, ◌≤◌};
-ghost use Rattle.book.specs.Carried.{Carried};
 ghost use Rattle.book.specs.Opening.{HandedBack};
 ghost use Rattle.book.specs.Replayed.{Followed};
 ghost use Rattle.book.specs.Reran.{PlayedThrough};
+ghost use Rattle.book.specs.Running.{after, answer_to};
 ghost use Rattle.book.specs.Told.{answer_of, call_of, told_of};
 
 use crate::book::Book;
@@ -28,7 +28,8 @@ fn answer_or_refuse<D: Directory, T: Tape>(
     book: &mut Book<D, T>,
     call: &Call,
 ) -> Result<Answer, Refusal>
-    ensures { Carried D.Directory T.Tape book.old.engine book.new.engine (call_of call.now) (told_of result) }
+    ensures answer { told_of result ≡ answer_to book.old (call_of call.now) }
+    ensures book { book.new ≡ after book.old (call_of call.now) }
 {
     Ok(match call {
         Call::Entry { time, id, ticket } => {
@@ -53,7 +54,8 @@ fn answer_or_refuse<D: Directory, T: Tape>(
 
 // The call is made, and its answer told; the list of calls stays as it is.
 pub fn carry_out<D: Directory, T: Tape>(book: &mut Book<D, T>, call: &Call) -> Answer
-    ensures { Carried D.Directory T.Tape book.old.engine book.new.engine (call_of call.now) (answer_of result) }
+    ensures answer { answer_of result ≡ answer_to book.old (call_of call.now) }
+    ensures book { book.new ≡ after book.old (call_of call.now) }
 {
     answer_or_refuse(book, call).unwrap_or_else(Answer::Refused)
 }
@@ -68,7 +70,7 @@ pub fn play<D: Directory, T: Tape>(
     calls: &[Call],
 ) -> Result<Played<D, T>, NotOpened<D, T>>
     ensures { MatchResult result
-        (λ p. PlayedThrough quote.bid quote.offer tape calls.now p)
+        (λ p. PlayedThrough T.Tape quote.bid quote.offer tape calls.now p)
         (λ e. HandedBack T.Tape directory tape e) }
 {
     Ok(Stage::new(heap, quote, directory, tape, calls)?.play(calls))

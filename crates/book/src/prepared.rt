@@ -37,8 +37,9 @@ fn table_for<T: Tape>(heap: Global, quote: Quote, tape: &T) -> Result<Table, Ope
 }
 
 impl<D: Directory, T: Tape> Prepared<D, T> {
-    ghost use Rattle.book.specs.Opening.{HandedBack, New};
+    ghost use Rattle.book.specs.Opening.{HandedBack};
     ghost use Rattle.book.specs.Preparing.{PreparedOn};
+    ghost use Rattle.book.specs.Running.{new_on};
 
     // All memory is had here. A tape that has lines is refused before memory is asked for.
     pub fn new(
@@ -75,7 +76,7 @@ impl<D: Directory, T: Tape> Prepared<D, T> {
 
     // The directory is emptied. Everything is had, so that this cannot fail.
     pub fn open(self) -> Book<D, T>
-        ensures { New T.Tape self.table.quote.bid self.table.quote.offer self.tape result.engine }
+        ensures { result ≡ new_on (T.Tape.free self.tape) self.table.quote.bid self.table.quote.offer }
     {
         let Prepared {
             mut directory,

@@ -48,7 +48,7 @@ impl<D: Directory, T: Tape> Stage<D, T> {
     pub(crate) fn play(self, calls: &[Call]) -> Played<D, T>
         requires none { self.answers.items ≡ [] }
         requires room { length calls.now ≤ vec_capacity self.answers }
-        ensures { PlayedThrough self.book.table.quote.bid self.book.table.quote.offer self.book.tape calls.now result }
+        ensures { PlayedThrough T.Tape self.book.table.quote.bid self.book.table.quote.offer self.book.tape calls.now result }
     {
         let Stage { book, mut answers } = self;
         let mut book = book.open();

@@ -5,15 +5,11 @@ use Rattle.terms.specs.Terms.{OrderTerms}
 use Rattle.register.specs.declared.fault.Fault.{Fault}
 use Rattle.register.specs.Faults.{listed_ticket}
 use Rattle.register.specs.Layout.{Listed}
-use Rattle.tape.specs.declared.tape.Tape.{Ghosts as TapeOf}
-use Rattle.directory.specs.declared.directory.Directory.{Ghosts as DirectoryOf}
 use Rattle.rules.specs.Answers.{Answer}
 use Rattle.rules.specs.Calls.{Outcome, call, entry}
-use Rattle.market.specs.Markets.{capacity_of}
 use Rattle.book.specs.declared.refusal.Rejected.{Rejected}
-use Rattle.book.specs.declared.book.Book.{Book as TheBook}
-use Rattle.book.specs.Books.{book_of}
-use Rattle.book.specs.Carried.{Carried, entry_told, outcome_of}
+use Rattle.book.specs.Running.{Running, answer_to, after}
+use Rattle.book.specs.Carried.{entry_told}
 use Rattle.book_register.specs.declared.load.LoadFault.{LoadFault}
 use Rattle.book_register.specs.declared.load.LoadFault.TheVariants.{Register, Book, SlipsFull}
 use Rattle.book_register.specs.Loads.{Attempt, entry_fault, made, attempt_with}
@@ -34,30 +30,22 @@ pub full_so : {U E : Type 0} (place : ℕ) (f : LoadFault) (r : Result U E) (Put
 full_so place f (Ok v) Put Says Q h so p = absurd (grind (arith, h))
 full_so place f (Err e) Put Says Q h so p = ((e, p), so e h)
 
-module _ {D T : Type 0} {d : DirectoryOf D} {t : TapeOf T} (time place : ℕ) (o : Listed) where
-  pub no_ticket : (b : TheBook D T d t) (e : Fault) → Err e ≡ listed_ticket place o.draft → Attempted b b time place o (Err (Register e))
+module _ (time place : ℕ) (o : Listed) where
+  pub no_ticket : (b : Running) (e : Fault) → Err e ≡ listed_ticket place o.draft → Attempted b b time place o (Err (Register e))
   no_ticket b e h =
-      let same : attempt_at b time place o ≡ attempt_with time (capacity_of t b.engine.market) place o (book_of t b.engine) (Err e) =
-      ap (attempt_with time (capacity_of t b.engine.market) place o (book_of t b.engine)) (sym h)
-      in
+      let same : attempt_at b time place o ≡ attempt_with time b.room place o b.book (Err e) = ap (attempt_with time b.room place o b.book) (sym h) in
       record {
         fault = sym (ap (λ (a : Attempt). a.fault) same);
         book = sym (ap (λ (a : Attempt). a.book) same);
         capacity = refl;
       }
 
-  pub ticketed : (b after : TheBook D T d t) (w : OrderTerms) (r : Result (Unit {0}) LoadFault) (a : Answer) → Ok w ≡ listed_ticket place o.draft → fault_of r ≡ entry_fault place a
-      → Carried d t b.engine after.engine (entry time o.identifier w) a → Attempted b after time place o r
-  ticketed b after w r a h told carried =
-      let room = capacity_of t b.engine.market in
-      let c = entry time o.identifier w in
-      let same : attempt_at b time place o ≡ attempt_with time room place o (book_of t b.engine) (Ok w) =
-      ap (attempt_with time room place o (book_of t b.engine)) (sym h)
-      in
-      let free : t.free b.engine.market.tape ≡ room - length (t.lines b.engine.market.tape) = omega arith in
-      let so : outcome_of t b.engine c ≡ made room c (book_of t b.engine) = ap (λ n. call n c (book_of t b.engine)) free in
+  pub ticketed : (b later : Running) (w : OrderTerms) (r : Result (Unit {0}) LoadFault) (a : Answer) → Ok w ≡ listed_ticket place o.draft → fault_of r ≡ entry_fault place a
+      → a ≡ answer_to b (entry time o.identifier w) → later ≡ after b (entry time o.identifier w) → Attempted b later time place o r
+  ticketed b later w r a h told answer book =
+      let same : attempt_at b time place o ≡ attempt_with time b.room place o b.book (Ok w) = ap (attempt_with time b.room place o b.book) (sym h) in
       record {
-        fault = told ∙ ap (entry_fault place) (carried.answer ∙ ap (λ (z : Outcome). z.answer) so) ∙ sym (ap (λ (z : Attempt). z.fault) same);
-        book = carried.book ∙ ap (λ (z : Outcome). z.book) so ∙ sym (ap (λ (z : Attempt). z.book) same);
-        capacity = carried.capacity;
+        fault = told ∙ ap (entry_fault place) answer ∙ sym (ap (λ (z : Attempt). z.fault) same);
+        book = ap (λ (s : Running). s.book) book ∙ sym (ap (λ (z : Attempt). z.book) same);
+        capacity = ap (λ (s : Running). s.room) book;
       }

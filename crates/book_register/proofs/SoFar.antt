@@ -12,14 +12,10 @@ use Rattle.register.specs.Parts.{listed_of}
 use Rattle.register.specs.Reading.{place_in, read_next}
 use Rattle.roll.specs.declared.roll.Roll.{Roll}
 use Rattle.roll.specs.Rolls.{records, room_left}
-use Rattle.tape.specs.declared.tape.Tape.{Ghosts as TapeOf}
-use Rattle.directory.specs.declared.directory.Directory.{Ghosts as DirectoryOf}
 use Rattle.rules.specs.Calls.{Call}
 use Rattle.rules.specs.Market.{Book as RuleBook}
 use Rattle.rules.specs.Runs.{run}
-use Rattle.market.specs.Markets.{capacity_of}
-use Rattle.book.specs.declared.book.Book.{Book}
-use Rattle.book.specs.Books.{book_of}
+use Rattle.book.specs.Running.{Running}
 use Rattle.book_register.specs.declared.load.LoadFault.{LoadFault}
 use Rattle.book_register.specs.declared.load.LoadFault.TheVariants.{Register, SlipsFull}
 use Rattle.book_register.specs.declared.slip.Slip.{Slip}
@@ -60,21 +56,21 @@ ended_on x y more e = ap (λ (z : Ended). go_on z.stop z.load more) e
 abbrev load_with : List Call → ℕ → List Slip → RuleBook → Load
 load_with cs n ss b = record { calls = cs; entered = n; slips = ss; book = b }
 
-module _ {D T : Type 0} {d : DirectoryOf D} {t : TapeOf T} (before : Book D T d t) (roll : Roll Slip) (time : ℕ) (register : List ℕ) where
+module _ (before : Running) (roll : Roll Slip) (time : ℕ) (register : List ℕ) where
   abbrev room : ℕ
-  room = capacity_of t before.engine.market
+  room = before.room
 
-  pub record SoFar (here : Book D T d t) (roll_here : Roll Slip) (rest : List ℕ) (so_entered so_put : ℕ) : Type 0 where
+  pub record SoFar (here : Running) (roll_here : Roll Slip) (rest : List ℕ) (so_entered so_put : ℕ) : Type 0 where
     pub calls : List Call
     pub slips : List Slip
     pub turns : ℕ
     pub enough : length rest ≤ turns
-    pub same : load_into before roll time register ≡ load_on time room (room_left roll) turns (length register) rest (load_with calls so_entered slips (book_of t here.engine))
-    pub ran : book_of t here.engine ≡ (run room calls (book_of t before.engine)).book
+    pub same : load_into before roll time register ≡ load_on time room (room_left roll) turns (length register) rest (load_with calls so_entered slips here.book)
+    pub ran : here.book ≡ (run room calls before.book).book
     pub put : records roll_here ≡ records roll ++ slips
     pub places : room_left roll_here + length slips ≡ room_left roll
     pub count : so_put ≡ length slips
-    pub capacity : capacity_of t here.engine.market ≡ room
+    pub capacity : here.room ≡ room
 
   pub so_far_none : SoFar before roll register 0 0
   so_far_none =
@@ -84,7 +80,7 @@ module _ {D T : Type 0} {d : DirectoryOf D} {t : TapeOf T} (before : Book D T d 
         turns = length register;
         enough = omega arith;
         same = refl;
-        ran = sym (run_none room (book_of t before.engine));
+        ran = sym (run_none room before.book);
         put = sym (append-nil (records roll));
         places = add-zero (room_left roll);
         count = refl;
@@ -92,26 +88,26 @@ module _ {D T : Type 0} {d : DirectoryOf D} {t : TapeOf T} (before : Book D T d 
       }
 
   -- a load that is over
-  over : (here : Book D T d t) (roll_here : Roll Slip) (r : Result Loaded LoadFault) (l : Load) (stop : Option LoadFault) → load_into before roll time register ≡ stopped_if stop l
+  over : (here : Running) (roll_here : Roll Slip) (r : Result Loaded LoadFault) (l : Load) (stop : Option LoadFault) → load_into before roll time register ≡ stopped_if stop l
       → r ≡ load_answer stop l
-      → book_of t here.engine ≡ (run room l.calls (book_of t before.engine)).book
+      → here.book ≡ (run room l.calls before.book).book
       → records roll_here ≡ records roll ++ l.slips
       → room_left roll_here + length l.slips ≡ room_left roll
-      → capacity_of t here.engine.market ≡ room
+      → here.room ≡ room
       → LoadedInto before here roll roll_here time register r
   over here roll_here r l stop same answer ran put places capacity =
       record {
         answer = answer ∙ ap (λ (z : Ended). load_answer z.stop z.load) (sym same);
-        ran = ran ∙ ap (λ (z : Ended). (run room z.load.calls (book_of t before.engine)).book) (sym same);
+        ran = ran ∙ ap (λ (z : Ended). (run room z.load.calls before.book).book) (sym same);
         capacity = capacity;
         slips = put ∙ ap (λ (z : Ended). records roll ++ z.load.slips) (sym same);
         places = ap (λ (z : Ended). room_left roll_here + length z.load.slips) same ∙ places;
-        lawful = load_lawful time room (room_left roll) register (book_of t before.engine);
+        lawful = load_lawful time room (room_left roll) register before.book;
       }
 
-  module _ (here : Book D T d t) (roll_here : Roll Slip) (rest : List ℕ) (n k : ℕ) (s : SoFar here roll_here rest n k) where
+  module _ (here : Running) (roll_here : Roll Slip) (rest : List ℕ) (n k : ℕ) (s : SoFar here roll_here rest n k) where
     abbrev so_far : Load
-    so_far = load_with s.calls n s.slips (book_of t here.engine)
+    so_far = load_with s.calls n s.slips here.book
 
     pub finished : None ≡ read_next (length register) rest → LoadedInto before here roll roll_here time register (Ok (record { entered = n; slips = k }))
     finished e =
@@ -124,32 +120,32 @@ module _ {D T : Type 0} {d : DirectoryOf D} {t : TapeOf T} (before : Book D T d 
         refl s.ran s.put s.places s.capacity
 
     -- an order came next, and was attempted
-    module _ (o : ListedOrder) (left : List ℕ) (came : Came register rest left o) (after : Book D T d t) (r : Result (Unit {0}) LoadFault) (tried : Attempted here after time o.place (listed_of o) r) where
+    module _ (o : ListedOrder) (left : List ℕ) (came : Came register rest left o) (after : Running) (r : Result (Unit {0}) LoadFault) (tried : Attempted here after time o.place (listed_of o) r) where
       abbrev place : ℕ
       place = place_in (length register) rest
 
       abbrev tries : Attempt
-      tries = attempt time room place (listed_of o) (book_of t here.engine)
+      tries = attempt time room place (listed_of o) here.book
 
       tries_are : attempt_at here time o.place (listed_of o) ≡ tries
       tries_are =
-          ap (λ m. attempt time m o.place (listed_of o) (book_of t here.engine)) s.capacity ∙ ap (λ m. attempt time room m (listed_of o) (book_of t here.engine)) came.placed
+          ap (λ m. attempt time m o.place (listed_of o) here.book) s.capacity ∙ ap (λ m. attempt time room m (listed_of o) here.book) came.placed
 
-      book_after : book_of t after.engine ≡ tries.book
+      book_after : after.book ≡ tries.book
       book_after = tried.book ∙ ap (λ (a : Attempt). a.book) tries_are
 
       abbrev calls_after : List Call
       calls_after = s.calls ++ tries.calls
 
-      ran_after : book_of t after.engine ≡ (run room calls_after (book_of t before.engine)).book
+      ran_after : after.book ≡ (run room calls_after before.book).book
       ran_after =
           book_after
-          ∙ attempt_runs time room place (listed_of o) (book_of t here.engine)
+          ∙ attempt_runs time room place (listed_of o) here.book
           ∙ ap (λ (b : RuleBook). (run room tries.calls b).book) s.ran
-          ∙ sym (run_append room s.calls tries.calls (book_of t before.engine))
+          ∙ sym (run_append room s.calls tries.calls before.book)
 
       abbrev load_after : Load
-      load_after = load_with calls_after n s.slips (book_of t after.engine)
+      load_after = load_with calls_after n s.slips after.book
 
       abbrev turns_left : ℕ
       turns_left = s.turns - 1

@@ -1,5 +1,4 @@
 // A whole book.
-ghost use Rattle.book.specs.Books.{book_of};
 ghost use Rattle.book_register.specs.Written.{Written};
 ghost use Rattle.register.specs.RoundTrip.{WritingGivesTheRegisterAgain};
 
@@ -14,7 +13,7 @@ pub fn write_book<D: Directory, T: Tape>(
     book: &Book<D, T>,
     buffer: &mut [u8],
 ) -> Result<usize, NoRoom>
-    ensures written { Written (book_of T.Tape book.now.engine) buffer.old buffer.new result }
+    ensures written { Written book.now.book buffer.old buffer.new result }
     ensures again { WritingGivesTheRegisterAgain }
 {
     let mut writer = Writer::new(buffer);

@@ -1,5 +1,4 @@
 // A desk: a book, and how many of its trades have been told.
-ghost use Rattle.book.specs.Books.{book_of};
 ghost use Rattle.book_register.specs.Written.{Written};
 
 use crate::command::Command;
@@ -108,7 +107,7 @@ impl<D: Directory, T: Tape> Desk<D, T> {
     // Writes the resting orders into the buffer: how many bytes they take, or that they do not fit. Who puts them into a file tells it
     // when they are there.
     pub fn write(&self, buffer: &mut [u8]) -> Result<usize, NoRoom>
-        ensures { Written (book_of T.Tape self.now.book.engine) buffer.old buffer.new result }
+        ensures { Written self.now.book.book buffer.old buffer.new result }
     {
         write_book(&self.book, buffer)
     }

@@ -1,4 +1,4 @@
-ghost use Rattle.std.specs.Prelude.{List, MatchOption, MatchResult, Option as Maybe, ℕ, ◌≡◌, ◌≤◌};
+ghost use Rattle.std.specs.Prelude.{List, MatchOption, MatchResult, Option as Maybe, ℕ, ◌≡◌};
 ghost use Rattle.directory.specs.Pairs.{Added, Emptied, Kept, RefusedPut, Removed};
 
 // How many pairs a directory holds at most.
@@ -39,6 +39,4 @@ pub trait Directory {
     // Drops every pair.
     fn clear(&mut self)
         ensures { Emptied (number self.new) (count self.new) };
-
-    ghost few: { (s : Self) → count s ≤ 64 };
 }

@@ -75,8 +75,6 @@ impl Directory for HashedDirectory {
 
     ghost count = { λ d. hashed_count d };
 
-    ghost few = { λ d. d.few };
-
     fn find(&self, id: &[u8]) -> Option<u32> {
         match self.look(id) {
             Spot::Taken { number, .. } => Some(number),

@@ -1,31 +1,24 @@
-ghost use Rattle.std.specs.Prelude.{true, vec_capacity, vec_len, ◌≡◌, ◌≤◌};
-ghost use Rattle.directory.specs.Entries.{distinct};
+ghost use Rattle.std.specs.Prelude.{IfOk, [], length, position, ◌≡◌};
+ghost use Rattle.std.specs.Str.{bytes_eq};
+ghost use Rattle.directory.specs.Entries.{entry_id, number_in};
 
 use crate::directory::{CAPACITY, Directory, PutRefusal};
 use crate::entry::{Entry, entry_of, is_of};
 use std::alloc::{AllocError, Global};
+use std::marker::Model;
 use terms::lawful_identifier;
 
 // A directory of rows, one pair each, the newest last; room for 64 is had at making. Not a map, since no call may
-// allocate.
+// allocate. It is seen as its pairs.
 #[derive(Drop)]
 pub struct RowDirectory {
     pub(crate) rows: Vec<Entry>,
-    ghost roomy: { 64 ≤ vec_capacity rows },
-    ghost few: { vec_len rows ≤ 64 },
-    ghost apart: { distinct rows.items ≡ true },
 }
 
 impl RowDirectory {
-    ghost use Rattle.std.specs.Prelude.{IfOk, position};
-    ghost use Rattle.std.specs.Str.{bytes_eq};
-    ghost use Rattle.directory.specs.Entries.{entry_id};
-    ghost use Rattle.directory.specs.Pairs.{Emptied};
-    ghost use Rattle.directory.specs.Rows.{row_count, row_number};
-
     // A directory with no pair. Fails only for want of memory.
     pub fn new(heap: Global) -> Result<RowDirectory, AllocError>
-        ensures { IfOk result (λ d. Emptied (row_number d) (row_count d)) }
+        ensures { IfOk result (λ d. d ≡ []) }
     {
         let rows = Vec::with_capacity(heap, CAPACITY)?;
         Ok(RowDirectory { rows })
@@ -33,20 +26,16 @@ impl RowDirectory {
 
     // The row of an identifier, if there is one.
     fn row_of(&self, id: &[u8]) -> Option<usize>
-        ensures { result ≡ position (λ e. bytes_eq id.now (entry_id e)) self.now.rows.items }
+        ensures { result ≡ position (λ e. bytes_eq id.now (entry_id e)) self.now }
     {
         self.rows.iter().position(|entry| is_of(entry, id))
     }
 }
 
 impl Directory for RowDirectory {
-    ghost use Rattle.directory.specs.Rows.{row_count, row_number};
+    ghost number = { λ d. number_in d };
 
-    ghost number = { λ d. row_number d };
-
-    ghost count = { λ d. row_count d };
-
-    ghost few = { λ d. d.few };
+    ghost count = { λ d. length d };
 
     fn find(&self, id: &[u8]) -> Option<u32> {
         let i = self.row_of(id)?;
@@ -75,4 +64,16 @@ impl Directory for RowDirectory {
     fn clear(&mut self) {
         self.rows.clear();
     }
+}
+
+impl Model for RowDirectory {
+    ghost use Rattle.std.specs.Prelude.{◌≡◌, ◌≤◌, List, true, vec_len, vec_capacity};
+    ghost use Rattle.directory.specs.declared.entry.Entry.{Entry as Pair};
+    ghost use Rattle.directory.specs.Entries.{distinct};
+
+    ghost Value = { List Pair };
+
+    ghost view = { λ d. d.rows.items };
+
+    ghost invariant = { λ d. (64 ≤ vec_capacity d.rows) × (vec_len d.rows ≤ 64) × (distinct d.rows.items ≡ true) };
 }

@@ -19,11 +19,16 @@ capacity_of t k = length (t.lines k.tape) + t.free k.tape
 abbrev pub HasRoom : {T : Type 0} → TapeOf T → TableAndTape T → Market → Type 0
 HasRoom t k m = length m.tape ≤ capacity_of t k
 
--- where the time is within the day and the lines find room, what the rule book makes of the market has become of it; the tape
--- has room for as many lines as before, and the rows are the same but for their shares
+-- the time is within the day, and the lines of what the rule book makes of the market find room
 -- (the time is any number, since a type of times of the day would ask more of whoever calls)
-pub record Follows {T : Type 0} (t : TapeOf T) (old new : TableAndTape T) (time : ℕ) (rule : Market → Market) : Type 0 where
-  pub market : time ≤ last_moment → HasRoom t old (rule (market_of t old)) → market_of t new ≡ rule (market_of t old)
+pub record CanFollow {T : Type 0} (t : TapeOf T) (k : TableAndTape T) (time : ℕ) (rule : Market → Market) : Type 0 where
+  pub day : time ≤ last_moment
+  pub room : HasRoom t k (rule (market_of t k))
+
+-- what the rule book makes of the market has become of it; the tape has room for as many lines as before, and the rows are the
+-- same but for their shares
+pub record Follows {T : Type 0} (t : TapeOf T) (old new : TableAndTape T) (rule : Market → Market) : Type 0 where
+  pub market : market_of t new ≡ rule (market_of t old)
   pub capacity : capacity_of t new ≡ capacity_of t old
   pub rows : SameButShares (vec_items old.table.rows) (vec_items new.table.rows)
 

@@ -1,5 +1,5 @@
 ghost use Rattle.std.specs.Prelude.{◌≡◌};
-ghost use Rattle.market.specs.Markets.{Follows, market_of};
+ghost use Rattle.market.specs.Markets.{CanFollow, Follows, market_of};
 ghost use Rattle.rules.specs.Calls.{requoted};
 ghost use Rattle.rules.specs.Clock.{due as due_of, end_period as end_period_of, settle as settle_of};
 
@@ -11,7 +11,8 @@ use terms::{Quote, Side};
 impl<T: Tape> Market<T> {
     // The quote is replaced, and every order that follows it is swept, lowest entry number first.
     pub fn requote(&mut self, time: u64, quote: Quote)
-        ensures { Follows T.Tape self.old self.new time (requoted time quote.bid quote.offer) }
+        requires { CanFollow T.Tape self.old time (requoted time quote.bid quote.offer) }
+        ensures { Follows T.Tape self.old self.new (requoted time quote.bid quote.offer) }
     {
         self.table.set_quote(quote);
         self.sweep_each(time, Round::QuoteChanged);
@@ -32,7 +33,8 @@ impl<T: Tape> Market<T> {
 
     // The side's period ends, and its QDP orders are swept at that time.
     fn end_period(&mut self, side: Side, end: u64)
-        ensures { Follows T.Tape self.old self.new end (end_period_of (side, end)) }
+        requires { CanFollow T.Tape self.old end (end_period_of (side, end)) }
+        ensures { Follows T.Tape self.old self.new (end_period_of (side, end)) }
     {
         self.table.set_end(side, None);
         self.sweep_each(end, Round::PeriodEnded(side));
@@ -41,7 +43,8 @@ impl<T: Tape> Market<T> {
     // Every period that is due by the time has ended. A period that begins here ends an order, so two turns more than orders
     // rest are enough.
     pub fn settle(&mut self, time: u64)
-        ensures { Follows T.Tape self.old self.new time (settle_of time) }
+        requires { CanFollow T.Tape self.old time (settle_of time) }
+        ensures { Follows T.Tape self.old self.new (settle_of time) }
     {
         // counted as in the rule book, whose settling has so many turns
         let turns = self.table.len_resting() + 2;

@@ -1,10 +1,9 @@
-ghost use Rattle.std.specs.Prelude.{[], ◌++◌, ◌∷◌, ◌≡◌, ◌≤◌};
+ghost use Rattle.std.specs.Prelude.{[], ◌++◌, ◌∷◌, ◌≡◌};
 ghost use Rattle.market.specs.Changes.{SameButShares};
-ghost use Rattle.market.specs.Markets.{CanJoin, Follows, HasRoom, capacity_of, market_of};
+ghost use Rattle.market.specs.Markets.{CanFollow, CanJoin, Follows, capacity_of, market_of};
 ghost use Rattle.market.specs.Rounds.{swept_at, woken};
 ghost use Rattle.market.specs.Rows.{row_order};
 ghost use Rattle.rules.specs.Calls.{swept_in};
-ghost use Rattle.rules.specs.Limits.{last_moment};
 ghost use Rattle.rules.specs.Market.{those};
 ghost use Rattle.rules.specs.Sweep.{sweep as sweep_of, sweep_each as sweep_each_of, trade as trade_of};
 
@@ -25,7 +24,8 @@ pub enum Round {
 impl<T: Tape> Market<T> {
     // One line between a taker and a partner.
     fn line(&mut self, time: u64, price: u32, taker: &Row, partner: &Row)
-        ensures { Follows T.Tape self.old self.new time (trade_of time price (row_order taker.now) (row_order partner.now)) }
+        requires { CanFollow T.Tape self.old time (trade_of time price (row_order taker.now) (row_order partner.now)) }
+        ensures { Follows T.Tape self.old self.new (trade_of time price (row_order taker.now) (row_order partner.now)) }
     {
         let line = self.table.trade(time, price, taker, partner);
         let _ = self.tape.write(line);
@@ -34,7 +34,8 @@ impl<T: Tape> Market<T> {
     // The order as taker at the time, at its present reach. One that rests no more is passed over. Each line ends an order, so as many
     // turns as orders rest are enough.
     pub fn sweep(&mut self, time: u64, taker: &Row)
-        ensures { Follows T.Tape self.old self.new time (sweep_of time (row_order taker.now)) }
+        requires { CanFollow T.Tape self.old time (sweep_of time (row_order taker.now)) }
+        ensures { Follows T.Tape self.old self.new (sweep_of time (row_order taker.now)) }
     {
         let price = self.table.reach(taker);
         // counted as in the rule book, whose sweep has so many turns
@@ -52,7 +53,8 @@ impl<T: Tape> Market<T> {
 
     // The row at an index is swept if the round wakes it.
     fn sweep_row(&mut self, time: u64, round: Round, index: usize)
-        ensures { Follows T.Tape self.old self.new time (swept_at round time index self.old.table.rows.items) }
+        requires { CanFollow T.Tape self.old time (swept_at round time index self.old.table.rows.items) }
+        ensures { Follows T.Tape self.old self.new (swept_at round time index self.old.table.rows.items) }
     {
         let Some(row) = self.table.row_at(index) else {
             return;
@@ -64,7 +66,8 @@ impl<T: Tape> Market<T> {
 
     // Every order that the round wakes is swept, as they rest when it begins; one that has left before its turn is swept in vain.
     pub fn sweep_each(&mut self, time: u64, round: Round)
-        ensures { Follows T.Tape self.old self.new time (λ m. sweep_each_of time (those (woken round) m.orders) m) }
+        requires { CanFollow T.Tape self.old time (λ m. sweep_each_of time (those (woken round) m.orders) m) }
+        ensures { Follows T.Tape self.old self.new (λ m. sweep_each_of time (those (woken round) m.orders) m) }
     {
         // by index, since each sweep changes rows
         let rows = self.table.len();
@@ -75,12 +78,11 @@ impl<T: Tape> Market<T> {
 
     // The order joins those that rest, and is swept. Its row stays, also with no shares left.
     pub fn sweep_in(&mut self, time: u64, row: Row)
-        ensures market { time ≤ last_moment → CanJoin self.old.table.rows.items row
-            → HasRoom T.Tape self.old (swept_in time (row_order row) (market_of T.Tape self.old))
-            → market_of T.Tape self.new ≡ swept_in time (row_order row) (market_of T.Tape self.old) }
+        requires joins { CanJoin self.old.table.rows.items row }
+        requires follows { CanFollow T.Tape self.old time (swept_in time (row_order row)) }
+        ensures market { market_of T.Tape self.new ≡ swept_in time (row_order row) (market_of T.Tape self.old) }
         ensures capacity { capacity_of T.Tape self.new ≡ capacity_of T.Tape self.old }
-        ensures rows { CanJoin self.old.table.rows.items row
-            → SameButShares (self.old.table.rows.items ++ (row ∷ [])) self.new.table.rows.items }
+        ensures rows { SameButShares (self.old.table.rows.items ++ (row ∷ [])) self.new.table.rows.items }
     {
         let _ = self.table.join(row);
         self.sweep(time, &row);

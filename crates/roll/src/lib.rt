@@ -3,4 +3,4 @@
 
 mod roll;
 
-pub use roll::{Full, Roll};
+pub use roll::{Full, Roll, keep_one};

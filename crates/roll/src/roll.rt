@@ -1,4 +1,4 @@
-ghost use Rattle.std.specs.Prelude.{length, ◌≤◌};
+ghost use Rattle.std.specs.Prelude.{length, slice_set, ◌<◌, ◌≡◌, ◌≤◌};
 
 // A roll keeps records, the oldest first, in a slice that its maker lends it.
 #[derive(Drop)]
@@ -14,15 +14,24 @@ pub struct Full<T> {
     pub item: T,
 }
 
+// What the lender finds in the slice once the roll is gone.
+pub fn keep_one(room: &mut [u8], item: u8)
+    requires { 0 < length room.old }
+    ensures { room.new ≡ slice_set room.old 0 item }
+{
+    let mut roll = Roll::new(room);
+    let _ = roll.push(item);
+}
+
 impl<'a, T: Copy> Roll<'a, T> {
-    ghost use Rattle.std.specs.Prelude.{MatchResult, [], slice_set, ◌++◌, ◌+◌, ◌∷◌, ◌≡◌};
-    ghost use Rattle.roll.specs.Rolls.{records, room_left, at_place};
+    ghost use Rattle.std.specs.Prelude.{MatchResult, [], ◌++◌, ◌+◌, ◌∷◌};
+    ghost use Rattle.roll.specs.Rolls.{records, room_left, places, lender, at_place};
 
     // An empty roll; what the slice held counts for nothing.
     pub fn new(room: &'a mut [T]) -> Roll<'a, T>
         ensures empty { records result ≡ [] }
         ensures free { room_left result ≡ length room.old }
-        ensures lent { (result.room.ghost_name ≡ room.entry.ghost_name) × (result.room.now ≡ room.old) × (result.used ≡ 0) }
+        ensures lent { (lender result ≡ room.entry.ghost_name) × (places result ≡ room.old) }
     {
         Roll { room, used: 0 }
     }
@@ -46,8 +55,8 @@ impl<'a, T: Copy> Roll<'a, T> {
         ensures pushed { MatchResult result
             (λ _. (records self.new ≡ records self.old ++ item ∷ []) × (room_left self.new + 1 ≡ room_left self.old))
             (λ e. (room_left self.old ≡ 0) × (e.item ≡ item) × (records self.new ≡ records self.old) × (room_left self.new ≡ 0)) }
-        ensures lent { (self.new.room.ghost_name ≡ self.old.room.ghost_name) × MatchResult result
-            (λ _. (self.new.room.now ≡ slice_set self.old.room.now self.old.used item) × (self.new.used ≡ self.old.used + 1))
+        ensures lent { (lender self.new ≡ lender self.old) × MatchResult result
+            (λ _. places self.new ≡ slice_set (places self.old) (length (records self.old)) item)
             (λ _. self.new ≡ self.old) }
     {
         if self.used == self.room.len() {

@@ -1,9 +1,9 @@
 ghost use Rattle.std.specs.Prelude.{[], length, ◌≡◌};
-ghost use Rattle.tape.specs.Records.{record_free, record_lines};
 
 use crate::line::Line;
 use crate::tape::{Full, Tape};
 use roll::Roll;
+use std::marker::Model;
 
 // A tape of whole lines on a roll.
 #[derive(Drop)]
@@ -11,11 +11,20 @@ pub struct RecordTape<'a> {
     roll: Roll<'a, Line>,
 }
 
+impl<'a> Model for RecordTape<'a> {
+    ghost use Rattle.roll.specs.Rolls.{records, room_left};
+    ghost use Rattle.tape.specs.Records.{Lines};
+
+    ghost Value = { Lines };
+
+    ghost view = { λ t. record { lines = records t.roll; free = room_left t.roll } };
+}
+
 impl<'a> RecordTape<'a> {
     // An empty tape with as many free lines as the slice has places.
     pub fn new(room: &'a mut [Line]) -> RecordTape<'a>
-        ensures empty { record_lines result ≡ [] }
-        ensures free { record_free result ≡ length room.old }
+        ensures empty { result.lines ≡ [] }
+        ensures free { result.free ≡ length room.old }
     {
         RecordTape {
             roll: Roll::new(room),
@@ -24,9 +33,9 @@ impl<'a> RecordTape<'a> {
 }
 
 impl<'a> Tape for RecordTape<'a> {
-    ghost lines = { λ s. record_lines s };
+    ghost lines = { λ s. s.lines };
 
-    ghost free = { λ s. record_free s };
+    ghost free = { λ s. s.free };
 
     fn free_lines(&self) -> usize {
         self.roll.free()

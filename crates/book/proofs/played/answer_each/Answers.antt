@@ -15,5 +15,5 @@ loop-call-preserved g c = (
   search rules,
   followed_more c.args.book.now c.loop-call.book c.carry_out.new.book c.args.calls.now c.loop-call.call-index c.call-item.result
       (vec_items c.loop-call.answers) (vec_items c.push_reserved.new.self) c.carry_out.result c.loop-call-test.true c.call-item.is c.push_reserved.ensures.items
-      c.loop-call.invariant.2 c.carry_out.ensures,
+      c.loop-call.invariant.2 c.carry_out.ensures.answer c.carry_out.ensures.book,
 )

@@ -4,7 +4,6 @@ use Rattle.std.proofs.lemmas.Result.{err_from_is_err_and}
 use Rattle.terms.specs.Made.{terms_of}
 use Rattle.register.specs.Orders.{order_of}
 use Rattle.register.specs.Writers.{page_of}
-use Rattle.book.specs.Books.{book_of}
 use Rattle.book_register.specs.Written.{listed_order}
 use Rattle.book_register.proofs.OrdersWritten.{SoWritten, written_more, written_all, written_half, rows_listed, row_next, book_written}
 use Rattle.register.proofs.WriteBack.{writes_back}
@@ -27,7 +26,7 @@ loop-row-preserved g c =
 
 pub returns-in_err-write_order-clause-written : goal.returns-in_err-write_order-clause-written
 returns-in_err-write_order-clause-written g c =
-    let b = book_of g.T.Tape c.args.book.now.engine in
+    let b = c.args.book.now.book in
     let rs = c.resting_orders-row-items.result.now in
     let i = c.loop-row.row-index in
     let row = c.row-item.result in
@@ -40,18 +39,18 @@ returns-in_err-write_order-clause-written g c =
     let lent : c.write_order.new.self.buffer.ghost_name ≡ c.new-writer.result.buffer.ghost_name = c.write_order.ensures.lent ∙ c.loop-row.invariant.0 in
     rw (e.1, e.2) (book_written b c.args.buffer.now _ start q _ (rows_listed rs) (ap (map listed_order) c.resting_orders-row-items.ensures.rows) c.new-writer.ensures.page (search rules)
     (written_half start p (rows_listed rs) o (rows_listed (drop (i + 1) rs)) next q c.write_order.ensures.page c.write_order.ensures.reads_back _ c.in_err-write_order.ensures.outcome)
-    (tickets_again c.args.book.now))
+    (tickets_again c.args.book.now rs c.resting_orders-row-items.ensures.rows c.resting_orders-row-items.ensures.reached))
 
 pub returns-clause-written : goal.returns-clause-written
 returns-clause-written g c =
-    let b = book_of g.T.Tape c.args.book.now.engine in
+    let b = c.args.book.now.book in
     let rs = c.resting_orders-row-items.result.now in
     let start = page_of c.new-writer.result in
     let p = page_of c.loop-row.writer in
     book_written b c.args.buffer.now _ start p _ (rows_listed rs) (ap (map listed_order) c.resting_orders-row-items.ensures.rows) c.new-writer.ensures.page (search rules)
     (written_all start p (rows_listed rs)
     (subst (λ z. SoWritten start p (rows_listed rs) z) (at_drop_all rows_listed rs c.loop-row.row-index c.loop-row-test.false) c.loop-row.invariant.1) c.mark.result c.mark.ensures)
-    (tickets_again c.args.book.now)
+    (tickets_again c.args.book.now rs c.resting_orders-row-items.ensures.rows c.resting_orders-row-items.ensures.reached)
 
 pub returns-clause-again : goal.returns-clause-again
 returns-clause-again g c = λ register orders bytes reads. writes_back (length register) orders register bytes reads

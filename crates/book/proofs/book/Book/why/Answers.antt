@@ -1,4 +1,4 @@
-use Rattle.std.proofs.Common.{◌≡◌, Some, vec_items, sym, ap, ◌∙◌, subst}
+use Rattle.std.proofs.Common.{◌≡◌, length, Some, vec_items, sym, ap, ◌∙◌, subst}
 use Rattle.rules.specs.Market.{Order, resting, ranked_in}
 use Rattle.rules.specs.Laws.{Reason}
 use Rattle.rules.specs.Questions.{Why}
@@ -7,6 +7,7 @@ use Rattle.rules.proofs.Rows.{resting_in}
 use Rattle.market.specs.Rows.{row_order, orders_in}
 use Rattle.market.proofs.Still.{reach_still}
 use Rattle.book.specs.Books.{book_of}
+use Rattle.book.specs.Running.{Running}
 use Rattle.book.proofs.Named.{found_none, found_some}
 use Rattle.book.proofs.Explains.{reasoned}
 use Rattle.book.proofs.book.Book.why.Goals as goal
@@ -14,36 +15,36 @@ use Rattle.book.proofs.book.Book.why.Goals as goal
 pub returns-in_err-number : goal.returns-in_err-number
 returns-in_err-number g c =
     let id = c.args.id.now in
-    rw c.from_residual.ensures
-    (found_none id (vec_items c.args.self.now.engine.market.table.rows) c.args.self.now.sound.rests (sym (c.args.self.now.sound.tied.known id) ∙ sym c.in_err-number.ensures))
+    rw (c.from_residual.ensures, ← c.self.view_is)
+    (found_none id (vec_items c.self.inside.engine.market.table.rows) c.self.invariant.0.rests (sym (c.self.invariant.0.tied.known id) ∙ sym c.in_err-number.ensures))
 
 pub returns-in_err-row : goal.returns-in_err-row
 returns-in_err-row g c =
     let id = c.args.id.now in
-    let table = c.args.self.now.engine.market.table in
-    let found = found_some id (vec_items table.rows) c.in_ok-number.number c.args.self.now.sound.rests table.ascending (sym (c.args.self.now.sound.tied.known id) ∙ sym c.in_ok-number.ensures) in
+    let table = c.self.inside.engine.market.table in
+    let found = found_some id (vec_items table.rows) c.in_ok-number.number c.self.invariant.0.rests table.ascending (sym (c.self.invariant.0.tied.known id) ∙ sym c.in_ok-number.ensures) in
     absurd (none_some (resting c.in_ok-number.number (orders_in (vec_items table.rows))) found.order (sym c.in_err-row.ensures) found.rests)
 
 pub returns : goal.returns
 unfolding ranked_in
 returns g c =
     let t = g.T.Tape in
-    let here = c.args.self.now.engine in
+    let here = c.self.inside.engine in
     let id = c.args.id.now in
     let table = here.market.table in
     let b = book_of t here in
     let k = c.in_ok-number.number in
     let orders = orders_in (vec_items table.rows) in
     let order = row_order c.in_ok-row.row in
-    let found = found_some id (vec_items table.rows) k c.args.self.now.sound.rests table.ascending (sym (c.args.self.now.sound.tied.known id) ∙ sym c.in_ok-number.ensures) in
+    let found = found_some id (vec_items table.rows) k c.self.invariant.0.rests table.ascending (sym (c.self.invariant.0.tied.known id) ∙ sym c.in_ok-number.ensures) in
     let rests : resting k orders ≡ Some order = sym c.in_ok-row.ensures in
     let same : found.order ≡ order = some_same found.order order (sym found.rests ∙ rests) in
-    let told = c.explain.ensures c.lines-written.ensures in
-    record {
+    let told = c.explain.ensures (c.lines-written.ensures ∙ ap (λ (s : Running). length s.book.market.tape) (sym c.self.view_is)) in
+    rw (← c.self.view_is) (record {
       order = order;
       names = found.names ∙ ap (λ (o : Order). Some o) same;
       ranked = c.ranked.ensures;
       reach = c.reach.ensures ∙ reach_still (t.lines here.market.tape) table order;
       told = told;
-      holds = subst (λ (w : Why). Reason b order w) (sym told) (reasoned g.D.Directory t here order c.args.self.now.sound (resting_in k orders order rests).0);
-    }
+      holds = subst (λ (w : Why). Reason b order w) (sym told) (reasoned g.D.Directory t here order c.self.invariant.0 (resting_in k orders order rests).0);
+    })

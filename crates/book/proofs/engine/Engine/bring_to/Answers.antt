@@ -6,7 +6,7 @@ use Rattle.book.proofs.engine.Engine.bring_to.Goals as goal
 
 pub returns-clause-book : goal.returns-clause-book
 unfolding at_time
-returns-clause-book g c h k = same_book (c.tidy.ensures.market ∙ c.settle.ensures.market h k) refl c.tidy.ensures.entries
+returns-clause-book g c = same_book (c.tidy.ensures.market ∙ c.settle.ensures.market) refl c.tidy.ensures.entries
 
 pub returns-clause-tidied : goal.returns-clause-tidied
 returns-clause-tidied g c =

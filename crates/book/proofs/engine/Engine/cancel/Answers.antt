@@ -14,44 +14,44 @@ use Rattle.book.proofs.Calling.{early, cancel_none, cancel_some, carried_on, dec
 use Rattle.book.proofs.engine.Engine.cancel.Goals as goal
 
 pub returns-then-not-lawful_identifier : goal.returns-then-not-lawful_identifier
-returns-then-not-lawful_identifier g c sound =
+returns-then-not-lawful_identifier g c =
     let t = g.T.Tape in
     let here = c.args.self.now in
     let call = cancel c.args.time c.args.id.now in
     early g.D.Directory t here call Identifier
-    (call_unlawful (t.free here.market.tape) call (book_of t here) (sym c.lawful_identifier.ensures ∙ c.if-not-lawful_identifier.true)) sound
+    (call_unlawful (t.free here.market.tape) call (book_of t here) (sym c.lawful_identifier.ensures ∙ c.if-not-lawful_identifier.true)) c.requires
 
 pub returns-in_err-advance : goal.returns-in_err-advance
-returns-in_err-advance g c sound =
+returns-in_err-advance g c =
     let p = err_from_is_err_and c.from_residual.result c.from_residual.ensures.1 in
     let lawful = sym c.lawful_identifier.ensures ∙ c.if-not-lawful_identifier.false in
-    rw (p.1, p.2) (c.in_err-advance.ensures sound (cancel c.args.time c.args.id.now) refl lawful)
+    rw (p.1, p.2) (c.in_err-advance.ensures (cancel c.args.time c.args.id.now) refl lawful)
 
 pub returns-in_default : goal.returns-in_default
-returns-in_default g c sound =
+returns-in_default g c =
     let t = g.T.Tape in
     let time = c.args.time in
     let id = c.args.id.now in
     let mid = c.advance.new.self in
     let lawful = sym c.lawful_identifier.ensures ∙ c.if-not-lawful_identifier.false in
-    let brought = c.in_ok-advance.ensures sound in
+    let brought = c.in_ok-advance.ensures in
     let none = found_none id (vec_items mid.market.table.rows) brought.rests (sym (brought.tied.known id) ∙ sym c.in_default.ensures) in
-    declined g.D.Directory t c.args.self.now mid (cancel time id) NoSuchOrder sound brought lawful (cancel_none time id (book_of t mid) none)
+    declined g.D.Directory t c.args.self.now mid (cancel time id) NoSuchOrder c.requires brought lawful (cancel_none time id (book_of t mid) none)
 
 pub returns : goal.returns
-returns g c sound =
+returns g c =
     let t = g.T.Tape in
     let time = c.args.time in
     let id = c.args.id.now in
     let mid = c.advance.new.self in
     let lawful = sym c.lawful_identifier.ensures ∙ c.if-not-lawful_identifier.false in
-    let brought = c.in_ok-advance.ensures sound in
+    let brought = c.in_ok-advance.ensures in
     let m = market_of t mid.market in
     let found =
     found_some id (vec_items mid.market.table.rows) c.in-Some.number brought.rests mid.market.table.ascending (sym (brought.tied.known id) ∙ sym c.in-Some.ensures)
     in
     let so = cancel_some time id (book_of t mid) found.order found.names in
-    carried_on g.D.Directory t c.args.self.now mid c.take_out.new.self (cancel time id) (cancelled c.take_out.result) sound brought lawful
+    carried_on g.D.Directory t c.args.self.now mid c.take_out.new.self (cancel time id) (cancelled c.take_out.result) c.requires brought lawful
     (ap cancelled (c.take_out.ensures.shares ∙ ap left_of found.rests) ∙ sym (ap (λ (o : Outcome). o.answer) so))
     (same_book (c.take_out.ensures.market ∙ ap (λ n. with_orders (without n m.orders) m) (sym found.number)) (c.take_out.ensures.clock ∙ brought.clock) c.take_out.ensures.entries
     ∙ sym (ap (λ (o : Outcome). o.book) so))

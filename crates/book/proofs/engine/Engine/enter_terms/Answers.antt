@@ -15,7 +15,7 @@ use Rattle.market.specs.Rows.{row_order}
 use Rattle.market.specs.Markets.{market_of}
 use Rattle.book.specs.Tied.{row_name}
 use Rattle.book.specs.declared.engine.Engine.{Engine}
-use Rattle.book.specs.Books.{book_of, Sound}
+use Rattle.book.specs.Books.{book_of}
 use Rattle.book.specs.Carried.{Carried, Brought}
 use Rattle.book.specs.Entering.{entry_test, Ready, HasPlace, Entered}
 use Rattle.book.proofs.Calling.{early, declined}
@@ -26,34 +26,34 @@ use Rattle.book.proofs.engine.Engine.enter_terms.Goals.{In_ok-number}
 use Rattle.book.proofs.engine.Engine.enter_terms.Given.{Over}
 
 pub returns-in_err-identifier : goal.returns-in_err-identifier
-returns-in_err-identifier g c sound =
+returns-in_err-identifier g c =
     let p = err_from_is_err_and c.from_residual.result c.from_residual.ensures.1 in
     let t = g.T.Tape in
     let here = c.args.self.now in
     let call = entry c.args.time c.args.id.now (terms_of c.args.terms) in
     let refused = c.in_err-identifier.ensures in
-    rw (p.1, p.2, refused.1) (early g.D.Directory t here call Identifier (call_unlawful (t.free here.market.tape) call (book_of t here) refused.0) sound)
+    rw (p.1, p.2, refused.1) (early g.D.Directory t here call Identifier (call_unlawful (t.free here.market.tape) call (book_of t here) refused.0) c.requires)
 
 pub returns-in_err-advance : goal.returns-in_err-advance
-returns-in_err-advance g c sound =
+returns-in_err-advance g c =
     let p = err_from_is_err_and c.from_residual-in_err-advance.result c.from_residual-in_err-advance.ensures.1 in
-    rw (p.1, p.2) (c.in_err-advance.ensures sound (entry c.args.time c.args.id.now (terms_of c.args.terms)) refl c.in_ok-identifier.ensures.0)
+    rw (p.1, p.2) (c.in_err-advance.ensures (entry c.args.time c.args.id.now (terms_of c.args.terms)) refl c.in_ok-identifier.ensures.0)
 
 pub returns-in_err-number : goal.returns-in_err-number
-returns-in_err-number g c sound =
+returns-in_err-number g c =
     let p = err_from_is_err_and c.from_residual-in_err-number.result c.from_residual-in_err-number.ensures.1 in
     let t = g.T.Tape in
     let mid = c.advance.new.self in
     let id = c.args.id.now in
     let w = terms_of c.args.terms in
-    let brought = c.in_ok-advance.ensures sound in
+    let brought = c.in_ok-advance.ensures in
     let why = c.in_err-number.field-0.0 in
     rw (p.1, p.2)
-    (declined g.D.Directory t c.args.self.now mid (entry c.args.time id w) why sound brought c.in_ok-identifier.ensures.0
-    (entry_refused c.args.time id w (book_of t mid) why (c.in_err-number.ensures brought.tied brought.rests)))
+    (declined g.D.Directory t c.args.self.now mid (entry c.args.time id w) why c.requires brought c.in_ok-identifier.ensures.0
+    (entry_refused c.args.time id w (book_of t mid) why (c.in_err-number.ensures)))
 
 -- an entry that passed its tests
-module _ (g : Over) (c : In_ok-number g) (sound : Sound g.D.Directory g.T.Tape c.args.self.now) where
+module _ (g : Over) (c : In_ok-number g) where
   abbrev w : OrderTerms
   w = terms_of c.args.terms
 
@@ -70,16 +70,16 @@ module _ (g : Over) (c : In_ok-number g) (sound : Sound g.D.Directory g.T.Tape c
   lawful = ap lawful_identifier name ∙ c.in_ok-identifier.ensures.0
 
   brought : Brought g.D.Directory g.T.Tape c.args.self.now mid c.args.time
-  brought = c.in_ok-advance.ensures sound
+  brought = c.in_ok-advance.ensures
 
   test : Ok c.in_ok-number.number ≡ entry_test (row_name row) w (book_of g.T.Tape mid)
-  test = c.in_ok-number.ensures brought.tied brought.rests ∙ ap (λ id. entry_test id w (book_of g.T.Tape mid)) (sym name)
+  test = c.in_ok-number.ensures ∙ ap (λ id. entry_test id w (book_of g.T.Tape mid)) (sym name)
 
   readied : Ready g.D.Directory g.T.Tape (counting c.in_ok-number.number mid) c.args.time row
-  readied = ready g.D.Directory g.T.Tape c.args.self.now mid c.args.time c.in_ok-number.number w row sound brought lawful test refl c.args.terms.shares_lawful.0
+  readied = ready g.D.Directory g.T.Tape c.args.self.now mid c.args.time c.in_ok-number.number w row c.requires brought lawful test refl c.args.terms.shares_lawful.0
 
   placed : c.args.terms.time_in_force ≡ Rest → HasPlace g.D.Directory (counting c.in_ok-number.number mid) row
-  placed = has_place g.D.Directory g.T.Tape c.args.self.now mid c.args.time c.in_ok-number.number w row sound brought lawful test refl
+  placed = has_place g.D.Directory g.T.Tape c.args.self.now mid c.args.time c.in_ok-number.number w row c.requires brought lawful test refl
 
   -- the sweep of an order of its time in force is the entry
   swept_so : (f : TimeInForce) (after : Engine g.row.D.Denot g.row.T.Denot) (v : ℕ × ℕ × ℕ) → c.args.terms.time_in_force ≡ f
@@ -88,17 +88,24 @@ module _ (g : Over) (c : In_ok-number g) (sound : Sound g.D.Directory g.T.Tape c
   swept_so f after v is done =
       let swept = swept_in c.args.time (row_order row) (market_of g.T.Tape mid.market) in
       subst (λ id. Carried g.D.Directory g.T.Tape c.args.self.now after (entry c.args.time id w) (entered v.0 v.1 v.2)) name
-      (accepted g.D.Directory g.T.Tape c.args.self.now mid c.args.time c.in_ok-number.number w row sound brought lawful test refl after v
+      (accepted g.D.Directory g.T.Tape c.args.self.now mid c.args.time c.in_ok-number.number w row c.requires brought lawful test refl after v
       (subst (λ z. Entered g.D.Directory g.T.Tape (counting c.in_ok-number.number mid) after (rested z c.args.time row.number row.left swept) v) (sym is) done))
 
+pub sweep_and_rest-requires-clause-ready : goal.sweep_and_rest-requires-clause-ready
+sweep_and_rest-requires-clause-ready g c = readied g (goal.at.sweep_and_rest-requires-clause-ready g c).In_ok-number
+
+pub sweep_and_rest-requires-clause-place : goal.sweep_and_rest-requires-clause-place
+sweep_and_rest-requires-clause-place g c = placed g (goal.at.sweep_and_rest-requires-clause-place g c).In_ok-number c.in-Rest.is
+
+pub sweep_and_lapse-requires : goal.sweep_and_lapse-requires
+sweep_and_lapse-requires g c = readied g (goal.at.sweep_and_lapse-requires g c).In_ok-number
+
 pub returns-in-Rest : goal.returns-in-Rest
-returns-in-Rest g c sound =
+returns-in-Rest g c =
     let here = (goal.at.returns-in-Rest g c).In_ok-number in
-    swept_so g here sound Rest c.sweep_and_rest.new.self c.sweep_and_rest.result c.in-Rest.is
-    (c.sweep_and_rest.ensures (readied g here sound) (placed g here sound c.in-Rest.is))
+    swept_so g here Rest c.sweep_and_rest.new.self c.sweep_and_rest.result c.in-Rest.is c.sweep_and_rest.ensures
 
 pub returns-in-ImmediateOrCancel : goal.returns-in-ImmediateOrCancel
-returns-in-ImmediateOrCancel g c sound =
+returns-in-ImmediateOrCancel g c =
     let here = (goal.at.returns-in-ImmediateOrCancel g c).In_ok-number in
-    swept_so g here sound ImmediateOrCancel c.sweep_and_lapse.new.self c.sweep_and_lapse.result c.in-ImmediateOrCancel.is
-    (c.sweep_and_lapse.ensures (readied g here sound))
+    swept_so g here ImmediateOrCancel c.sweep_and_lapse.new.self c.sweep_and_lapse.result c.in-ImmediateOrCancel.is c.sweep_and_lapse.ensures

@@ -11,7 +11,8 @@ use Rattle.book.proofs.Joined.{newest_same, front_same}
 use Rattle.book.proofs.engine.Engine.sweep_and_lapse.Goals as goal
 
 pub returns : goal.returns
-returns g c ready =
+returns g c =
+    let ready = c.requires in
     let d = g.D.Directory in
     let t = g.T.Tape in
     let here = c.args.self.now in
@@ -20,8 +21,8 @@ returns g c ready =
     let rows = vec_items here.market.table.rows in
     let swept = c.sweep_in.new.self in
     let swept_rows = vec_items swept.table.rows in
-    let same = c.sweep_in.ensures.rows ready.joins in
-    let market = c.sweep_in.ensures.market ready.day ready.joins ready.lines in
+    let same = c.sweep_in.ensures.rows in
+    let market = c.sweep_in.ensures.market in
     let left = c.shares_left-left.ensures ∙ ap (λ (m : Market). left_of (resting k m.orders)) market in
     let m = market_of t swept in
     let fewer : SameButShares rows (vec_items c.drop_newest.new.self.rows) =

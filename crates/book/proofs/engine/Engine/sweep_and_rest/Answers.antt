@@ -10,7 +10,9 @@ use Rattle.book.proofs.Joined.{row_joined, put_added}
 use Rattle.book.proofs.engine.Engine.sweep_and_rest.Goals as goal
 
 pub returns : goal.returns
-returns g c ready place =
+returns g c =
+    let ready = c.requires.ready in
+    let place = c.requires.place in
     let d = g.D.Directory in
     let t = g.T.Tape in
     let here = c.args.self.now in
@@ -25,7 +27,7 @@ returns g c ready place =
     (ap lawful_identifier name ∙ place.lawful) (ap (d.number here.directory) name ∙ place.fresh) place.free
     in
     let joined = row_joined row rows id (d.number here.directory) (d.number held) (d.count here.directory) (d.count held) name added ready.tied in
-    let market = c.sweep_in.ensures.market ready.day ready.joins ready.lines in
+    let market = c.sweep_in.ensures.market in
     let left = c.shares_left-left.ensures ∙ ap (λ (m : Market). left_of (resting k m.orders)) market in
     record {
       answer = ap (λ n. entered k n 0) (c.saturating_sub.ensures ∙ ap (λ n. row.left - n) left);
@@ -34,7 +36,7 @@ returns g c ready place =
           record {
             tied = λ _.
                 c.tidy.ensures.tidied.tied
-                (tied_kept (d.number held) (d.count held) (rows ++ (row ∷ [])) (vec_items c.sweep_in.new.self.table.rows) (c.sweep_in.ensures.rows ready.joins) joined);
+                (tied_kept (d.number held) (d.count held) (rows ++ (row ∷ [])) (vec_items c.sweep_in.new.self.table.rows) c.sweep_in.ensures.rows joined);
             rests = c.tidy.ensures.tidied.rests;
             capacity = c.tidy.ensures.tidied.capacity ∙ c.sweep_in.ensures.capacity;
             room = c.tidy.ensures.tidied.room;

@@ -8,4 +8,4 @@ use Rattle.market.proofs.market.Market.settle.Given as goal
 abbrev pub invariant-loop : goal.invariant-loop
 invariant-loop g l =
     let whole = end_periods l.turns l.time (market_of g.T.Tape l.initial.self) in
-    Underway g.T.Tape l.initial.self l.self l.time whole (whole ≡ end_periods (l.turns - l.counter) l.time (market_of g.T.Tape l.self))
+    Underway g.T.Tape l.initial.self l.self (whole ≡ end_periods (l.turns - l.counter) l.time (market_of g.T.Tape l.self))

@@ -9,4 +9,4 @@ use Rattle.market.proofs.market.Market.sweep.Given as goal
 abbrev pub invariant-loop : goal.invariant-loop
 invariant-loop g l =
     let whole = lines l.turns l.time l.price (row_order l.taker) (market_of g.T.Tape l.initial.self) in
-    Underway g.T.Tape l.initial.self l.self l.time whole (whole ≡ lines (l.turns - l.counter) l.time l.price (row_order l.taker) (market_of g.T.Tape l.self))
+    Underway g.T.Tape l.initial.self l.self (whole ≡ lines (l.turns - l.counter) l.time l.price (row_order l.taker) (market_of g.T.Tape l.self))

@@ -13,6 +13,6 @@ invariant-loop-index g l =
     let first = market_of g.T.Tape l.initial.self in
     let here = market_of g.T.Tape l.self in
     let whole = sweep_each l.time (those (woken l.round) first.orders) first in
-    Underway g.T.Tape l.initial.self l.self l.time whole
+    Underway g.T.Tape l.initial.self l.self
     ((whole ≡ sweep_each l.time (those (woken l.round) (orders_in (drop l.index (vec_items l.initial.self.table.rows)))) here)
     × ((k : ℕ) → resting k first.orders ≡ None → resting k here.orders ≡ None))

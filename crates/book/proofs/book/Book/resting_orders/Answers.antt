@@ -1,0 +1,9 @@
+use Rattle.book.proofs.Explains.{discretion_explained}
+use Rattle.book.proofs.Runs.{reached}
+use Rattle.book.proofs.book.Book.resting_orders.Goals as goal
+
+pub returns-clause-reached : goal.returns-clause-reached
+returns-clause-reached g c = reached _ _ _ _ c.self.view_is c.self.invariant
+
+pub returns-clause-explained : goal.returns-clause-explained
+returns-clause-explained g c = rw (← c.self.view_is) (discretion_explained _ _ _ c.self.invariant.0)

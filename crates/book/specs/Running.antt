@@ -1,0 +1,43 @@
+-- A book as its callers see it: the rule book's book, and how many lines its tape has room for, written and free.
+use Rattle.std.specs.Prelude.{◌≡◌, ℕ, ◌-◌, List, length}
+use Rattle.rules.specs.Market.{Book}
+use Rattle.rules.specs.Answers.{Answer, Told, told}
+use Rattle.rules.specs.Calls.{Call, Outcome, call}
+use Rattle.rules.specs.Runs.{opened, run}
+use Rattle.tape.specs.declared.tape.Tape.{Ghosts as TapeOf}
+use Rattle.book.specs.declared.engine.Engine.{Engine}
+use Rattle.book.specs.Books.{book_of}
+
+pub record Running : Type 0 where
+  pub book : Book
+  pub room : ℕ
+
+-- what the rule book makes of a call, with the lines that are free on the tape
+abbrev pub outcome : Running → Call → Outcome
+outcome s c = call (s.room - length s.book.market.tape) c s.book
+
+abbrev pub answer_to : Running → Call → Answer
+answer_to s c = (outcome s c).answer
+
+-- the number and the values that are told of it
+abbrev pub told_of : Running → Call → Told
+told_of s c = told (answer_to s c)
+
+-- the book after the call
+abbrev pub after : Running → Call → Running
+after s c = record { book = (outcome s c).book; room = s.room }
+
+-- how an engine runs
+abbrev pub running : {D T : Type 0} → TapeOf T → Engine D T → Running
+running t b = record { book = book_of t b; room = b.room }
+
+-- a new book, whose tape has room for so many lines
+abbrev pub new_on : ℕ → ℕ → ℕ → Running
+new_on room bid offer = record { book = opened bid offer; room = room }
+
+-- the book is what some run of calls on a new book leaves
+pub record Reached (s : Running) : Type 0 where
+  pub bid : ℕ
+  pub offer : ℕ
+  pub calls : List Call
+  pub is : s.book ≡ (run s.room calls (opened bid offer)).book
