@@ -1,6 +1,7 @@
 -- The directory's answer and the rule book's: an identifier names the row that it names among the orders, if all rows rest.
--- Cite found_none and found_some.
-use Rattle.std.proofs.Common.{◌≡◌, ℕ, ◌<◌, true, false, eqb, ltb, ◌⊎◌, List, [], ◌∷◌, map, Some, None, sym, refl, ap, ◌∙◌, subst, inl, inr, arith}
+-- Cite found_none, found_some and has_pairs.
+use Rattle.std.proofs.Common.{◌≡◌, ℕ, ◌<◌, true, false, eqb, ltb, ◌⊎◌, List, [], ◌∷◌, length, map, Some, None, Option, sym, refl, ap, ◌∙◌, subst, inl, inr, arith}
+use Rattle.std.specs.Option.{option_map}
 use Rattle.std.proofs.lemmas.Bool.{cases_Bool, and_parts, ltb-true, ne_eqb, eq-eqb}
 use Rattle.rules.specs.Market.{Order, resting}
 use Rattle.rules.specs.Calls.{same_bytes, named}
@@ -8,7 +9,8 @@ use Rattle.rules.proofs.Cases.{if_true, if_false}
 use Rattle.market.specs.declared.row.Row.{Row}
 use Rattle.market.specs.Rows.{row_order, rising, orders_in}
 use Rattle.market.specs.Changes.{AllRest}
-use Rattle.book.specs.Tied.{row_name, number_named}
+use Rattle.book.specs.Tied.{Tied, row_name, number_named}
+use Rattle.book.specs.Closing.{HasPairsOf}
 
 -- the order that an identifier names, with its number, which no other order has
 pub record Found (id : List ℕ) (k : ℕ) (os : List Order) : Type 0 where
@@ -67,3 +69,29 @@ module _ (id : List ℕ) where
 
   pub found_some : (rs : List Row) (k : ℕ) → AllRest rs → rising 0 rs ≡ true → number_named id rs ≡ Some k → Found id k (orders_in rs)
   found_some rs k all up e = subst (Found id k) all.orders (some_named 0 rs k up e).0
+
+  -- the number that an identifier names among the rows is that of the order that it names
+  number_of_named : (rs : List Row) → number_named id rs ≡ option_map (λ (o : Order). o.number) (named id (map row_order rs))
+  unfolding number_named named
+  number_of_named [] = refl
+  number_of_named (r ∷ rs) = by (cases_Bool (same_bytes (row_name r) id)) (number_of_named rs)
+    where
+      by : (same_bytes (row_name r) id ≡ true) ⊎ (same_bytes (row_name r) id ≡ false)
+          → number_named id rs ≡ option_map (λ (o : Order). o.number) (named id (map row_order rs))
+          → number_named id (r ∷ rs) ≡ option_map (λ (o : Order). o.number) (named id (map row_order (r ∷ rs)))
+      by (inl h) ih =
+          if_true (same_bytes (row_name r) id) (Some r.number) (number_named id rs) h
+          ∙ sym (ap (option_map (λ (o : Order). o.number)) (if_true (same_bytes (row_name r) id) (Some (row_order r)) (named id (map row_order rs)) h))
+      by (inr h) ih =
+          if_false (same_bytes (row_name r) id) (Some r.number) (number_named id rs) h
+          ∙ ih
+          ∙ sym (ap (option_map (λ (o : Order). o.number)) (if_false (same_bytes (row_name r) id) (Some (row_order r)) (named id (map row_order rs)) h))
+
+length_mapped : (rs : List Row) → length (map row_order rs) ≡ length rs
+length_mapped [] = refl
+length_mapped (r ∷ rs) = let e = length_mapped rs in omega (arith, e)
+
+pub has_pairs : (number : List ℕ → Option ℕ) (count : ℕ) (rs : List Row) → Tied number count rs → AllRest rs → HasPairsOf (orders_in rs) number count
+has_pairs number count rs tied all =
+    subst (λ os. HasPairsOf os number count) all.orders
+    (record { known = λ id. tied.known id ∙ number_of_named id rs; counted = tied.counted ∙ sym (length_mapped rs) })

@@ -1,5 +1,6 @@
 pub mod Books
 pub mod Carried
+pub mod Closing
 pub mod Entering
 pub mod Explaining
 pub mod Law
