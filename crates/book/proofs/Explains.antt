@@ -1,14 +1,15 @@
 -- The reason that is told of a resting order holds, since the book is what a run of calls leaves; so the tape explains the
--- discretion of every sound book. Cite reasoned and discretion_explained.
+-- discretion of every sound book, and none stands crossed. Cite reasoned, discretion_explained and uncrossed.
 use Rattle.std.proofs.Common.{sym, subst}
 use Rattle.std.specs.List.{AllByRecursion as Every}
 use Rattle.tape.specs.declared.tape.Tape.{Ghosts as TapeOf}
 use Rattle.directory.specs.declared.directory.Directory.{Ghosts as DirectoryOf}
 use Rattle.rules.specs.Market.{Order, Book}
 use Rattle.rules.specs.Questions.{why}
-use Rattle.rules.specs.Laws.{Reason, DiscretionExplained}
+use Rattle.rules.specs.Laws.{Reason, DiscretionExplained, Uncrossed}
 use Rattle.rules.proofs.Marks.{tape_explains_discretion}
 use Rattle.rules.proofs.Members.{In, in_all}
+use Rattle.rules.proofs.Uncrossed.{never_crossed}
 use Rattle.rules.proofs.Why.{reasons_hold}
 use Rattle.market.specs.Markets.{capacity_of}
 use Rattle.book.specs.declared.engine.Engine.{Engine}
@@ -25,3 +26,8 @@ pub discretion_explained : {D T : Type 0} (d : DirectoryOf D) (t : TapeOf T) (b 
 discretion_explained d t b sound =
     let r = sound.reached in
     subst DiscretionExplained (sym r.is) (tape_explains_discretion r.bid r.offer (capacity_of t b.market) r.calls)
+
+pub uncrossed : {D T : Type 0} (d : DirectoryOf D) (t : TapeOf T) (b : Engine D T) → Sound d t b → Uncrossed (book_of t b).market
+uncrossed d t b sound =
+    let r = sound.reached in
+    subst (λ (z : Book). Uncrossed z.market) (sym r.is) (never_crossed r.bid r.offer (capacity_of t b.market) r.calls)

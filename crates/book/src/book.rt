@@ -9,7 +9,7 @@ ghost use Rattle.market.specs.Meant.{figures_as, standing_as};
 ghost use Rattle.market.specs.Rows.{row_order};
 ghost use Rattle.roll.specs.Rolls.{at_place};
 ghost use Rattle.rules.specs.Calls.{cancel as cancel_of, entry as entry_of, named, quote as quote_of, tick as tick_of};
-ghost use Rattle.rules.specs.Laws.{DiscretionExplained};
+ghost use Rattle.rules.specs.Laws.{DiscretionExplained, Uncrossed};
 ghost use Rattle.rules.specs.Questions.{Answered, closing};
 ghost use Rattle.terms.specs.Made.{terms_of};
 
@@ -128,11 +128,13 @@ impl<D: Directory, T: Tape> Book<D, T> {
         })
     }
 
-    // The rows of the orders that rest, lowest entry number first. The tape explains the discretion of each MDO among them.
+    // The rows of the orders that rest, lowest entry number first. Some run of calls leads to the book; so the tape explains the
+    // discretion of each MDO among them, and no buy reaches a sell.
     pub fn resting_orders(&self) -> &[Row]
         ensures rows { map row_order result.now ≡ self.now.book.market.orders }
         ensures reached { Reached self.now }
         ensures explained { DiscretionExplained self.now.book }
+        ensures never_crossed { Uncrossed self.now.book.market }
     {
         self.engine.market.table.rows()
     }

@@ -1,4 +1,4 @@
-use Rattle.book.proofs.Explains.{discretion_explained}
+use Rattle.book.proofs.Explains.{discretion_explained, uncrossed}
 use Rattle.book.proofs.Runs.{reached}
 use Rattle.book.proofs.book.Book.resting_orders.Goals as goal
 
@@ -7,3 +7,6 @@ returns-clause-reached g c = reached _ _ _ _ c.self.view_is c.self.invariant
 
 pub returns-clause-explained : goal.returns-clause-explained
 returns-clause-explained g c = rw (← c.self.view_is) (discretion_explained _ _ _ c.self.invariant.0)
+
+pub returns-clause-never_crossed : goal.returns-clause-never_crossed
+returns-clause-never_crossed g c = rw (← c.self.view_is) (uncrossed _ _ _ c.self.invariant.0)
