@@ -13,7 +13,8 @@ use Rattle.rules.specs.Calls.{Outcome, named, no_place, swept_in}
 use Rattle.market.specs.declared.row.Row.{Row}
 use Rattle.market.specs.Rows.{row_order}
 use Rattle.market.specs.Changes.{AllRest}
-use Rattle.market.specs.Markets.{market_of, HasRoom, CanJoin}
+use Rattle.market.specs.Joining.{CanJoin}
+use Rattle.market.specs.Markets.{market_of, HasRoom}
 use Rattle.book.specs.declared.engine.Engine.{Engine}
 use Rattle.book.specs.Tied.{row_name}
 use Rattle.book.specs.Books.{BookTied}

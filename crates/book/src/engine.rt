@@ -111,7 +111,9 @@ impl<D: Directory, T: Tape> Engine<D, T> {
         requires place { HasPlace D.Directory self.old row }
         ensures { Entered D.Directory T.Tape self.old self.new (rested Rest time row.number row.left (swept_in time (row_order row) (market_of T.Tape self.old.market))) result }
     {
-        let _ = self.directory.put(row.identifier.as_bytes(), row.number);
+        self.directory
+            .put(row.identifier.as_bytes(), row.number)
+            .unwrap();
         self.market.sweep_in(time, row);
         let left = self.shares_left(row.number);
         self.tidy();

@@ -1,6 +1,6 @@
 -- Rows side by side: their orders are those of both parts, and a row above the newest number keeps the numbers ascending. By
--- induction over the first part. Cite: orders_in_append, orders_in_one, rising_push; newest_last for what `newest` reads.
-use Rattle.std.proofs.Common.{◌≡◌, ℕ, zero, suc, ◌<◌, true, ltb, List, [], ◌∷◌, ◌++◌, length, get_or, sym, refl, ap, ◌∙◌, inl, inr, arith}
+-- induction over the first part. Cite: orders_in_append, orders_in_one, rising_push.
+use Rattle.std.proofs.Common.{◌≡◌, ℕ, ◌<◌, true, ltb, List, [], ◌∷◌, ◌++◌, sym, refl, ap, ◌∙◌, inl, inr}
 use Rattle.std.proofs.lemmas.Bool.{lt-ltb, and_parts, and_from, cases_Bool}
 use Rattle.market.specs.declared.row.Row.{Row}
 use Rattle.market.specs.Rows.{row_order, rising, rests, orders_in}
@@ -28,11 +28,3 @@ rising_push low [] r up lt = and_from (ltb low r.number) true (lt-ltb low r.numb
 rising_push low (x ∷ rs) r up lt =
     let parts = and_parts (ltb low x.number) (rising x.number rs) up in
     and_from (ltb low x.number) (rising x.number (rs ++ r ∷ [])) parts.0 (rising_push x.number rs r parts.1 lt)
-
--- the newest number stands in the last row
-pub newest_last : (low : ℕ) (rs : List Row) (i : ℕ) (d : Row) → length rs ≡ suc i → newest_number low rs ≡ (get_or rs i d).number
-newest_last low [] i d e = omega arith
-newest_last low (r ∷ []) zero d e = refl
-newest_last low (r ∷ []) (suc i) d e = omega arith
-newest_last low (r ∷ x ∷ rs) zero d e = omega arith
-newest_last low (r ∷ x ∷ rs) (suc i) d e = newest_last r.number (x ∷ rs) i d (omega arith)

@@ -1,5 +1,6 @@
 pub mod Changes
 pub mod Displays
+pub mod Joining
 pub mod Markets
 pub mod Meant
 pub mod Ranks

@@ -1,10 +1,9 @@
 -- The order table with its tape, as the rule book's market.
-use Rattle.std.specs.Prelude.{◌≡◌, ℕ, ◌+◌, ◌<◌, ◌≤◌, List, length, vec_items}
+use Rattle.std.specs.Prelude.{◌≡◌, ℕ, ◌+◌, ◌≤◌, length, vec_items}
 use Rattle.tape.specs.declared.tape.Tape.{Ghosts as TapeOf}
 use Rattle.rules.specs.Limits.{last_moment}
 use Rattle.rules.specs.Market.{Market}
-use Rattle.market.specs.declared.row.Row.{Row}
-use Rattle.market.specs.Changes.{SameButShares, newest_number}
+use Rattle.market.specs.Changes.{SameButShares}
 use Rattle.market.specs.Seen.{market_with}
 use Rattle.market.specs.declared.market.Market.{Market as TableAndTape}
 
@@ -31,9 +30,3 @@ pub record Follows {T : Type 0} (t : TapeOf T) (old new : TableAndTape T) (rule 
   pub market : market_of t new ≡ rule (market_of t old)
   pub capacity : capacity_of t new ≡ capacity_of t old
   pub rows : SameButShares (vec_items old.table.rows) (vec_items new.table.rows)
-
--- the row can join the table: a row is free, its entry number is above all others, and it has shares left
-pub record CanJoin (rs : List Row) (r : Row) : Type 0 where
-  pub free : length rs < 65
-  pub newest : newest_number 0 rs < r.number
-  pub some : 0 < r.left

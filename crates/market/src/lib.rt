@@ -19,5 +19,5 @@ pub use market::Market;
 pub use ranking::{Standing, ask};
 pub use row::Row;
 pub use sweep::Round;
-pub use table::{NotJoined, Table};
+pub use table::Table;
 pub use trade::mark_of;

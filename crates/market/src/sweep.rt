@@ -1,6 +1,7 @@
 ghost use Rattle.std.specs.Prelude.{[], ◌++◌, ◌∷◌, ◌≡◌};
 ghost use Rattle.market.specs.Changes.{SameButShares};
-ghost use Rattle.market.specs.Markets.{CanFollow, CanJoin, Follows, capacity_of, market_of};
+ghost use Rattle.market.specs.Joining.{CanJoin};
+ghost use Rattle.market.specs.Markets.{CanFollow, Follows, capacity_of, market_of};
 ghost use Rattle.market.specs.Rounds.{swept_at, woken};
 ghost use Rattle.market.specs.Rows.{row_order};
 ghost use Rattle.rules.specs.Calls.{swept_in};
@@ -28,7 +29,7 @@ impl<T: Tape> Market<T> {
         ensures { Follows T.Tape self.old self.new (trade_of time price (row_order taker.now) (row_order partner.now)) }
     {
         let line = self.table.trade(time, price, taker, partner);
-        let _ = self.tape.write(line);
+        self.tape.write(line).unwrap();
     }
 
     // The order as taker at the time, at its present reach. One that rests no more is passed over. Each line ends an order, so as many
@@ -84,7 +85,7 @@ impl<T: Tape> Market<T> {
         ensures capacity { capacity_of T.Tape self.new ≡ capacity_of T.Tape self.old }
         ensures rows { SameButShares (self.old.table.rows.items ++ (row ∷ [])) self.new.table.rows.items }
     {
-        let _ = self.table.join(row);
+        self.table.join(row);
         self.sweep(time, &row);
     }
 }

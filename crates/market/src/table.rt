@@ -1,7 +1,6 @@
 // The order table, with what the prices of its orders depend on.
 ghost use Rattle.std.specs.Prelude.{true, vec_capacity, vec_len, ◌≡◌, ◌≤◌};
 ghost use Rattle.market.specs.Rows.{rising};
-ghost use Rattle.market.specs.declared.table.NotJoined.{NotJoined};
 
 use crate::row::Row;
 use rules::MOST_RESTING;
@@ -23,17 +22,11 @@ pub struct Table {
 // How many rows stand at most: those that rest, and one that is being entered.
 pub(crate) const MOST_ROWS: usize = MOST_RESTING + 1;
 
-// Why a row is not added.
-#[derive(Clone, Copy, PartialEq, Eq, Debug, Drop)]
-pub enum NotJoined {
-    TableFull,
-    NumberNotRising,
-}
-
 impl Table {
     ghost use Rattle.std.specs.Option.{option_map};
     ghost use Rattle.std.specs.Prelude.{IfOk, IsOk, MatchOption, None, OnErr, [], if◌then◌else◌, is_ok, length, nat_lt, slice_index_or, take, ◌&&◌, ◌++◌, ◌+◌, ◌-◌, ◌<◌, ◌↔◌, ◌∷◌};
     ghost use Rattle.market.specs.Changes.{AllRest, FirstSpent, OnlySharesOf, RestsAt, Retired, newest_number};
+    ghost use Rattle.market.specs.Joining.{CanJoin};
     ghost use Rattle.market.specs.Rows.{orders_in, row_order};
     ghost use Rattle.market.specs.Seen.{Becomes, seen};
     ghost use Rattle.rules.specs.Calls.{joined};
@@ -152,34 +145,13 @@ impl Table {
         self.rows.iter().filter(|row| row.rests()).count()
     }
 
-    // The highest entry number in the table, or 0.
-    fn newest(&self) -> u32
-        ensures { result ≡ newest_number 0 self.now.rows.items }
+    // Adds a row behind the others.
+    pub(crate) fn join(&mut self, row: Row)
+        requires { CanJoin self.old.rows.items row }
+        ensures rows { self.new.rows.items ≡ self.old.rows.items ++ (row ∷ []) }
+        ensures market { Becomes self.old self.new (joined (row_order row)) }
     {
-        match self.rows.last() {
-            Some(row) => row.number,
-            None => 0,
-        }
-    }
-
-    // Adds a row. Refused exactly if the table is full or the entry number does not rise, and then nothing changes.
-    pub fn join(&mut self, row: Row) -> Result<(), NotJoined>
-        ensures full { result ≡ Err NotJoined.TableFull ↔ 65 ≤ vec_len self.old.rows }
-        ensures late { result ≡ Err NotJoined.NumberNotRising ↔ (vec_len self.old.rows < 65) × (row.number ≤ newest_number 0 self.old.rows.items) }
-        ensures accepted { is_ok result ≡ (nat_lt (vec_len self.old.rows) 65 && nat_lt (newest_number 0 self.old.rows.items) row.number) }
-        ensures rows { self.new.rows.items ≡ (if is_ok result then self.old.rows.items ++ (row ∷ []) else self.old.rows.items) }
-        ensures orders { IsOk result → 0 < row.left → orders_in self.new.rows.items ≡ orders_in self.old.rows.items ++ (row_order row ∷ []) }
-        ensures market { IsOk result → 0 < row.left → Becomes self.old self.new (joined (row_order row)) }
-        ensures refused { OnErr result (self.new ≡ self.old) }
-    {
-        if self.rows.len() >= MOST_ROWS {
-            return Err(NotJoined::TableFull);
-        }
-        if row.number <= self.newest() {
-            return Err(NotJoined::NumberNotRising);
-        }
         self.rows.push_reserved(row);
-        Ok(())
     }
 
     // Drops the newest row, whether it rests or not; an empty table stays as it is.
@@ -187,7 +159,7 @@ impl Table {
         ensures rows { self.new.rows.items ≡ take (length self.old.rows.items - 1) self.old.rows.items }
         ensures market { Becomes self.old self.new (λ m. with_orders (without (newest_number 0 self.old.rows.items) m.orders) m) }
     {
-        let _ = self.rows.pop();
+        self.rows.pop();
     }
 
     // The resting order with that entry number has no shares left, so that it rests no more.

@@ -3,4 +3,4 @@
 
 mod roll;
 
-pub use roll::{Full, Roll, keep_one};
+pub use roll::{Full, Roll};

@@ -1,4 +1,4 @@
-ghost use Rattle.std.specs.Prelude.{length, slice_set, ◌<◌, ◌≡◌, ◌≤◌};
+ghost use Rattle.std.specs.Prelude.{length, slice_set, ◌≡◌, ◌≤◌};
 
 // A roll keeps records, the oldest first, in a slice that its maker lends it.
 #[derive(Drop)]
@@ -12,15 +12,6 @@ pub struct Roll<'a, T> {
 #[derive(Clone, Copy, PartialEq, Eq, Debug, Drop)]
 pub struct Full<T> {
     pub item: T,
-}
-
-// What the lender finds in the slice once the roll is gone.
-pub fn keep_one(room: &mut [u8], item: u8)
-    requires { 0 < length room.old }
-    ensures { room.new ≡ slice_set room.old 0 item }
-{
-    let mut roll = Roll::new(room);
-    let _ = roll.push(item);
 }
 
 impl<'a, T: Copy> Roll<'a, T> {

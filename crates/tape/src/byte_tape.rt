@@ -22,7 +22,7 @@ pub fn write_lines(bytes: &mut [u8], lines: &[Line]) -> usize
     let count = lines.len().min(bytes.len() / LINE_BYTES);
     let mut tape = ByteTape::new(bytes);
     for line in &lines[..count] {
-        let _ = tape.write(*line);
+        tape.write(*line).unwrap();
     }
     count
 }

@@ -4,6 +4,7 @@ use lib.Seq.{paste}
 use Rattle.tape.specs.declared.byte_tape.ByteTape.{ByteTape}
 use Rattle.tape.specs.declared.line.Line.{Line}
 use Rattle.tape.specs.declared.tape.Full.{Full}
+use Rattle.std.specs.Result.{IsOk}
 use Rattle.tape.specs.Bytes.{byte_free, byte_lines}
 use Rattle.tape.specs.Layout.{line_bytes}
 use Rattle.tape.proofs.Rows.{row_length, row_written}
@@ -17,6 +18,26 @@ written : (was is : ByteTape) (line : Line) (r : Result (Unit {0}) Full)
     → (is.bytes.now ≡ paste was.bytes.now (was.used * 43) (line_bytes line) 43) × (is.used ≡ was.used + 1)
 written was is line (Ok x) lines lent free = lent.1
 written was is line (Err e) lines lent free = absurd (omega (arith, lines.0))
+
+ok_written : (was is : ByteTape) (line : Line) (r : Result (Unit {0}) Full)
+    → MatchResult r (λ _. (byte_lines is ≡ byte_lines was ++ line ∷ []) × (byte_free is + 1 ≡ byte_free was)) (λ _. (byte_free was ≡ 0) × (byte_lines is ≡ byte_lines was) × (byte_free is ≡ 0))
+    → 0 < byte_free was
+    → IsOk r
+ok_written was is line (Ok x) lines free = search rules
+ok_written was is line (Err e) lines free = absurd (omega (arith, lines.0))
+
+pub unwrap-requires : goal.unwrap-requires
+unwrap-requires c =
+    let was = c.loop-line.tape in
+    let i = c.loop-line.line-index in
+    let ls = take c.min-count.result c.args.lines.now in
+    let bytes = c.new-tape.result.bytes.now in
+    let inv = c.loop-line.invariant in
+    let same : length bytes ≡ length c.args.bytes.now = ap length c.new-tape.ensures.lent.1 in
+    let count : c.min-count.result ≡ length ls = simp length-take (omega arith) in
+    let in_bytes : i < length bytes / 43 = omega arith in
+    let long : length was.bytes.now ≡ length bytes = ap length inv.2 ∙ row_length bytes ls i (omega arith) (omega arith) in
+    ok_written was c.write.new.self _ c.write.result c.write.ensures.line (omega (arith, inv.0))
 
 pub loop-line-preserved : goal.loop-line-preserved
 loop-line-preserved c =

@@ -1,9 +1,8 @@
-use Rattle.std.proofs.Common.{◌<◌, [], ◌∷◌, ◌++◌, vec_items, ap, ◌∙◌, arith}
+use Rattle.std.proofs.Common.{◌≡◌, [], ◌∷◌, ◌++◌, vec_items, ap, ◌∙◌}
 use Rattle.std.proofs.lemmas.Bool.{lt-ltb}
 use Rattle.rules.specs.Market.{with_orders}
-use Rattle.market.specs.Rows.{orders_in, rising}
+use Rattle.market.specs.Rows.{orders_in, rising, row_order}
 use Rattle.market.specs.Seen.{market_with}
-use Rattle.market.specs.Changes.{newest_number}
 use Rattle.market.proofs.Joined.{orders_in_append, orders_in_one, rising_push}
 use Rattle.market.proofs.table.Table.join.Goals as goal
 
@@ -11,14 +10,13 @@ pub invariant_of-self-clause-ascending : goal.invariant_of-self-clause-ascending
 invariant_of-self-clause-ascending c =
     let self = c.args.self.now in
     let rows = vec_items self.rows in
-    let above : newest_number 0 rows < c.args.row.number = omega arith in
-    ap (rising 0) c.push_reserved.ensures.items ∙ rising_push 0 rows c.args.row self.ascending above
-
-pub returns-clause-orders : goal.returns-clause-orders
-returns-clause-orders c ok some =
-    let rows = vec_items c.args.self.now.rows in
-    let row = c.args.row in
-    ap orders_in c.push_reserved.ensures.items ∙ orders_in_append rows (row ∷ []) ∙ ap (λ os. orders_in rows ++ os) (orders_in_one row (lt-ltb 0 row.left some))
+    ap (rising 0) c.push_reserved.ensures.items ∙ rising_push 0 rows c.args.row self.ascending c.requires.newest
 
 pub returns-clause-market : goal.returns-clause-market
-returns-clause-market c ok some tape = ap (λ os. with_orders os (market_with tape c.args.self.now)) (returns-clause-orders c ok some)
+returns-clause-market c tape =
+    let rows = vec_items c.args.self.now.rows in
+    let row = c.args.row in
+    let orders : orders_in (vec_items c.push_reserved.new.self) ≡ orders_in rows ++ (row_order row ∷ []) =
+    ap orders_in c.push_reserved.ensures.items ∙ orders_in_append rows (row ∷ []) ∙ ap (λ os. orders_in rows ++ os) (orders_in_one row (lt-ltb 0 row.left c.requires.some))
+    in
+    ap (λ os. with_orders os (market_with tape c.args.self.now)) orders
