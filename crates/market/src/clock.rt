@@ -19,7 +19,7 @@ impl<T: Tape> Market<T> {
     }
 
     // The period that ends first, if its end has come by the time; the buy side's where both end together.
-    pub fn due(&self, time: u64) -> Option<(Side, u64)>
+    pub(crate) fn due(&self, time: u64) -> Option<(Side, u64)>
         ensures { result ≡ due_of time (market_of T.Tape self.now) }
     {
         let first = match (self.table.end(Side::Buy), self.table.end(Side::Sell)) {

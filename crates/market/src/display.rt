@@ -11,7 +11,7 @@ use terms::Side;
 
 impl Table {
     // No displayed order of the side ranks better than the price.
-    pub fn is_best_displayed(&self, side: Side, price: u32) -> bool
+    pub(crate) fn is_best_displayed(&self, side: Side, price: u32) -> bool
         ensures { result ≡ best_displayed (seen self.now) side price (orders_in self.now.rows.items) }
     {
         self.rows.iter().filter(|row| row.rests()).all(|row| !(row.shows(side)
@@ -31,7 +31,7 @@ impl Table {
     }
 
     // The displayed shares of the side at the price.
-    pub fn displayed_shares(&self, side: Side, price: u32) -> u64
+    pub(crate) fn displayed_shares(&self, side: Side, price: u32) -> u64
         ensures { result ≡ displayed_shares_of (seen self.now) side price (orders_in self.now.rows.items) }
     {
         self.rows

@@ -18,6 +18,4 @@ pub use figures::{Figures, Tally, figures_of};
 pub use market::Market;
 pub use ranking::{Standing, ask};
 pub use row::Row;
-pub use sweep::Round;
 pub use table::Table;
-pub use trade::mark_of;

@@ -88,7 +88,7 @@ impl Table {
     }
 
     // The next partner of the side for a taker at the price.
-    pub fn next_partner(&self, side: Side, price: u32) -> Option<Row>
+    pub(crate) fn next_partner(&self, side: Side, price: u32) -> Option<Row>
         ensures { option_map row_order result ≡ next_partner_of (seen self.now) side price (orders_in self.now.rows.items) }
     {
         self.rows
@@ -103,7 +103,7 @@ impl Table {
     }
 
     // The next partner for a taker at the price.
-    pub fn partner_for(&self, taker: &Row, price: u32) -> Option<Row>
+    pub(crate) fn partner_for(&self, taker: &Row, price: u32) -> Option<Row>
         ensures { option_map row_order result ≡ partner_for_of (row_order taker.now) price (seen self.now) }
     {
         self.next_partner(opposite(taker.terms.side), price)

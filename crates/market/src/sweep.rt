@@ -15,7 +15,7 @@ use terms::{Kind, Side};
 
 // What wakes the orders of a round: two named events, since whoever hands over a closure has to prove that it can be called.
 #[derive(Clone, Copy, PartialEq, Eq, Debug, Drop)]
-pub enum Round {
+pub(crate) enum Round {
     // the side's protection period has ended: its QDP orders
     PeriodEnded(Side),
     // the quote is new: the orders whose price follows it
@@ -34,7 +34,7 @@ impl<T: Tape> Market<T> {
 
     // The order as taker at the time, at its present reach. One that rests no more is passed over. Each line ends an order, so as many
     // turns as orders rest are enough.
-    pub fn sweep(&mut self, time: u64, taker: &Row)
+    pub(crate) fn sweep(&mut self, time: u64, taker: &Row)
         requires { CanFollow T.Tape self.old time (sweep_of time (row_order taker.now)) }
         ensures { Follows T.Tape self.old self.new (sweep_of time (row_order taker.now)) }
     {
@@ -66,7 +66,7 @@ impl<T: Tape> Market<T> {
     }
 
     // Every order that the round wakes is swept, as they rest when it begins; one that has left before its turn is swept in vain.
-    pub fn sweep_each(&mut self, time: u64, round: Round)
+    pub(crate) fn sweep_each(&mut self, time: u64, round: Round)
         requires { CanFollow T.Tape self.old time (λ m. sweep_each_of time (those (woken round) m.orders) m) }
         ensures { Follows T.Tape self.old self.new (λ m. sweep_each_of time (those (woken round) m.orders) m) }
     {

@@ -48,7 +48,7 @@ impl Table {
         })
     }
 
-    pub fn set_quote(&mut self, quote: Quote)
+    pub(crate) fn set_quote(&mut self, quote: Quote)
         ensures quote { self.new.quote ≡ quote }
         ensures market { Becomes self.old self.new (with_quote quote.bid quote.offer) }
         ensures rows { self.new.rows ≡ self.old.rows }
@@ -57,28 +57,28 @@ impl Table {
     }
 
     // Sets or clears the end of the side's protection period.
-    pub fn set_end(&mut self, side: Side, end: Option<u64>)
+    pub(crate) fn set_end(&mut self, side: Side, end: Option<u64>)
         ensures market { Becomes self.old self.new (with_end side end) }
         ensures rows { self.new.rows ≡ self.old.rows }
     {
         self.ends.set(side, end);
     }
 
-    pub fn quote(&self) -> Quote
+    pub(crate) fn quote(&self) -> Quote
         ensures { result ≡ self.now.quote }
     {
         self.quote
     }
 
     // When the side's protection period ends, where one runs.
-    pub fn end(&self, side: Side) -> Option<u64>
+    pub(crate) fn end(&self, side: Side) -> Option<u64>
         ensures { result ≡ end_of side (seen self.now) }
     {
         *self.ends.get(side)
     }
 
     // Whether the side's protection period runs.
-    pub fn period_runs(&self, side: Side) -> bool
+    pub(crate) fn period_runs(&self, side: Side) -> bool
         ensures { result ≡ period_runs_of side (seen self.now) }
     {
         self.ends.get(side).is_some()
@@ -99,7 +99,7 @@ impl Table {
     }
 
     // How many rows stand, with shares left or without.
-    pub fn len(&self) -> usize
+    pub(crate) fn len(&self) -> usize
         ensures { result ≡ length self.now.rows.items }
     {
         self.rows.len()
@@ -113,14 +113,14 @@ impl Table {
     }
 
     // The row at an index, from 0.
-    pub fn row_at(&self, index: usize) -> Option<Row>
+    pub(crate) fn row_at(&self, index: usize) -> Option<Row>
         ensures { MatchOption result (length self.now.rows.items ≤ index) (λ row. (index < length self.now.rows.items) × (row ≡ slice_index_or self.now.rows.items index row)) }
     {
         self.rows.get(index).copied()
     }
 
     // The index of the resting row with that entry number.
-    pub fn index_of(&self, number: u32) -> Option<usize>
+    pub(crate) fn index_of(&self, number: u32) -> Option<usize>
         ensures { MatchOption result
             (resting number (orders_in self.now.rows.items) ≡ None)
             (λ i. RestsAt self.now.rows.items number i) }
@@ -175,7 +175,7 @@ impl Table {
     }
 
     // Lowers the resting order with that entry number; with no shares left it rests no more. No other row is touched.
-    pub fn lower(&mut self, number: u32, shares: u32)
+    pub(crate) fn lower(&mut self, number: u32, shares: u32)
         ensures orders { orders_in self.new.rows.items ≡ lower number shares (orders_in self.old.rows.items) }
         ensures market { Becomes self.old self.new (λ m. with_orders (lower number shares m.orders) m) }
         ensures rows { OnlySharesOf number self.old.rows.items self.new.rows.items }

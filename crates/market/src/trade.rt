@@ -15,7 +15,7 @@ use tape::{Line, Mark};
 use terms::Side;
 
 // The mark of a line that depletes the side. A function, since neither type is of this crate.
-pub fn mark_of(side: Side) -> Mark
+pub(crate) fn mark_of(side: Side) -> Mark
     ensures { result ≡ side_mark side }
 {
     match side {
@@ -52,7 +52,7 @@ impl Table {
     }
 
     // One line at the time, for a taker at the price; the line is handed back for the tape.
-    pub fn trade(&mut self, time: u64, price: u32, taker: &Row, partner: &Row) -> Line
+    pub(crate) fn trade(&mut self, time: u64, price: u32, taker: &Row, partner: &Row) -> Line
         ensures market { time ≤ last_moment → (tape : List TradeLine) → market_with (tape ++ (result ∷ [])) self.new ≡ trade_of time price (row_order taker.now) (row_order partner.now) (market_with tape self.old) }
         ensures rows { SameButShares self.old.rows.items self.new.rows.items }
     {
