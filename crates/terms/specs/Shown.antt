@@ -1,4 +1,4 @@
--- What people read: words for side and kind, and half-cents as dollars with three decimals.
+-- What people read: words for side, kind and refusal, and half-cents as dollars with three decimals.
 use Rattle.std.specs.Prelude.{ℕ, ◌*◌, ◌/◌, ◌%◌, List, ◌++◌, codes, decimal}
 use Rattle.terms.specs.declared.side.Side.{Side}
 use Rattle.terms.specs.declared.side.Side.TheVariants.{Buy, Sell}

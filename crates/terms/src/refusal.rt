@@ -1,7 +1,11 @@
 // Why there is no ticket or no quote.
-ghost use Rattle.std.specs.Prelude.{◌≡◌};
+ghost use Rattle.std.specs.Fmt.{padded};
+ghost use Rattle.std.specs.Prelude.{Some, ◌≡◌};
 ghost use Rattle.terms.specs.Codes.{refusal_number};
 ghost use Rattle.terms.specs.Shown.{refusal_words};
+
+use std::error::Error;
+use std::fmt;
 
 // Why a ticket, a quote or an identifier is refused, each with its number.
 #[derive(Clone, Copy, PartialEq, Eq, Debug, Drop)]
@@ -37,3 +41,15 @@ impl Refusal {
         }
     }
 }
+
+impl fmt::Display for Refusal {
+    ghost output = { λ why. Some (refusal_words why) };
+
+    ghost styled_output = { λ why spec. Some (padded spec (refusal_words why)) };
+
+    fn fmt<W: fmt::Write>(&self, f: &mut fmt::Formatter<W>) -> fmt::Result {
+        f.pad(self.words())
+    }
+}
+
+impl Error for Refusal {}

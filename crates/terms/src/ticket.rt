@@ -28,7 +28,7 @@ pub struct Draft {
 }
 
 // What an order says: 1 to 1,000,000 shares; limit (1 to 2,000,000) and offset (-100 to 100) in whole cents.
-#[derive(Clone, Copy, Drop)]
+#[derive(Clone, Copy, Debug, Drop)]
 pub struct Terms {
     pub side: Side,
     pub kind: Kind,
@@ -44,7 +44,7 @@ pub struct Terms {
 }
 
 // One ticket, one entry: a ticket is moved into the book and never copied.
-#[derive(Drop)]
+#[derive(Debug, Drop)]
 pub struct Ticket {
     pub(crate) terms: Terms,
 }
