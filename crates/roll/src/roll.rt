@@ -1,5 +1,8 @@
 ghost use Rattle.std.specs.Prelude.{length, slice_set, ◌≡◌, ◌≤◌};
 
+use std::error::Error;
+use std::fmt;
+
 // A roll keeps records, the oldest first, in a slice that its maker lends it.
 #[derive(Drop)]
 pub struct Roll<'a, T> {
@@ -72,3 +75,19 @@ impl<'a, T: Copy> Roll<'a, T> {
         self.as_slice().get(place.checked_sub(1)?).copied()
     }
 }
+
+impl<T> fmt::Display for Full<T> {
+    ghost use Rattle.std.specs.Fmt.{padded};
+    ghost use Rattle.std.specs.Prelude.{Some};
+    ghost use Rattle.roll.specs.Words.{full_words};
+
+    ghost output = { λ _. Some full_words };
+
+    ghost styled_output = { λ _ spec. Some (padded spec full_words) };
+
+    fn fmt<W: fmt::Write>(&self, f: &mut fmt::Formatter<W>) -> fmt::Result {
+        f.pad("no free place on the roll")
+    }
+}
+
+impl<T: fmt::Debug + Drop> Error for Full<T> {}
