@@ -1,12 +1,28 @@
-ghost use Rattle.std.specs.Prelude.{List, MatchResult, [], ℕ, ◌++◌, ◌+◌, ◌∷◌, ◌≡◌};
+ghost use Rattle.std.specs.Fmt.{padded};
+ghost use Rattle.std.specs.Prelude.{List, MatchResult, Some, [], ℕ, ◌++◌, ◌+◌, ◌∷◌, ◌≡◌};
 ghost use Rattle.roll.specs.Rolls.{at_place};
+ghost use Rattle.tape.specs.Words.{full_words};
 ghost use Rattle.tape.specs.declared.line.Line.{Line as TradeLine};
 
 use crate::line::Line;
+use std::error::Error;
+use std::fmt;
 
 // The tape has no free line.
 #[derive(Clone, Copy, PartialEq, Eq, Debug, Drop)]
 pub struct Full;
+
+impl fmt::Display for Full {
+    ghost output = { λ _. Some full_words };
+
+    ghost styled_output = { λ _ spec. Some (padded spec full_words) };
+
+    fn fmt<W: fmt::Write>(&self, f: &mut fmt::Formatter<W>) -> fmt::Result {
+        f.pad("no free line on the tape")
+    }
+}
+
+impl Error for Full {}
 
 // All that a user sees of a tape, whatever its make: the lines written, from oldest to newest, and how many more it can take.
 pub trait Tape {
