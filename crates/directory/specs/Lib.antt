@@ -2,3 +2,4 @@ pub mod Pairs
 pub mod Entries
 pub mod Table
 pub mod Hashed
+pub mod Words

@@ -1,6 +1,9 @@
 ghost use Rattle.std.specs.Prelude.{List, MatchOption, MatchResult, Option as Maybe, ℕ, ◌≡◌};
 ghost use Rattle.directory.specs.Pairs.{Added, Emptied, Kept, RefusedPut, Removed};
 
+use std::error::Error;
+use std::fmt;
+
 // How many pairs a directory holds at most.
 pub const CAPACITY: usize = 64;
 
@@ -11,6 +14,26 @@ pub enum PutRefusal {
     Held,
     Full,
 }
+
+impl fmt::Display for PutRefusal {
+    ghost use Rattle.std.specs.Fmt.{padded};
+    ghost use Rattle.std.specs.Prelude.{Some};
+    ghost use Rattle.directory.specs.Words.{put_refusal_words};
+
+    ghost output = { λ why. Some (put_refusal_words why) };
+
+    ghost styled_output = { λ why spec. Some (padded spec (put_refusal_words why)) };
+
+    fn fmt<W: fmt::Write>(&self, f: &mut fmt::Formatter<W>) -> fmt::Result {
+        f.pad(match self {
+            PutRefusal::Unlawful => "identifier not lawful",
+            PutRefusal::Held => "identifier already held",
+            PutRefusal::Full => "directory full",
+        })
+    }
+}
+
+impl Error for PutRefusal {}
 
 // A directory is a set of at most 64 pairs, a whole identifier and an entry number, no identifier in two of them.
 // `number` is the entry number of an identifier, if it is held, and `count` is how many pairs there are.
