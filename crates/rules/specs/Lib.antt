@@ -11,3 +11,4 @@ pub mod Laws
 pub mod Examples
 pub mod PriorityRuns
 pub mod RefusalRuns
+pub mod Words

@@ -1,7 +1,12 @@
 // Why a call of the book is refused, and what that leaves.
-ghost use Rattle.std.specs.Prelude.{◌≡◌};
+ghost use Rattle.std.specs.Fmt.{padded};
+ghost use Rattle.std.specs.Prelude.{Some, ◌≡◌};
 ghost use Rattle.rules.specs.Answers.{after_clock, refusal_number};
 ghost use Rattle.rules.specs.Laws.{RefusalLeaves};
+ghost use Rattle.rules.specs.Words.{refusal_words};
+
+use std::error::Error;
+use std::fmt;
 
 // Of these the first that holds is told.
 #[derive(Clone, Copy, PartialEq, Eq, PartialOrd, Ord, Debug, Drop)]
@@ -23,6 +28,21 @@ impl Refusal {
         self as u8
     }
 
+    // Static, since the report of a fault keeps these words.
+    pub fn words(self) -> &'static str
+        ensures { result.now ≡ refusal_words self }
+    {
+        match self {
+            Refusal::Identifier => "identifier not lawful",
+            Refusal::Time => "time not of the day, or before the clock",
+            Refusal::TapeShort => "too few free lines on the tape",
+            Refusal::NameTaken => "identifier already rests",
+            Refusal::BookFull => "book full",
+            Refusal::EntriesSpent => "entries spent",
+            Refusal::NoSuchOrder => "no such order",
+        }
+    }
+
     // Whether the clock is at the call's time by then: the book is left as a tick leaves it, or else as it was.
     pub fn moves_clock(self) -> bool
         ensures told { result ≡ after_clock self }
@@ -31,3 +51,15 @@ impl Refusal {
         self > Refusal::TapeShort
     }
 }
+
+impl fmt::Display for Refusal {
+    ghost output = { λ why. Some (refusal_words why) };
+
+    ghost styled_output = { λ why spec. Some (padded spec (refusal_words why)) };
+
+    fn fmt<W: fmt::Write>(&self, f: &mut fmt::Formatter<W>) -> fmt::Result {
+        f.pad(self.words())
+    }
+}
+
+impl Error for Refusal {}
