@@ -2,6 +2,7 @@ ghost use Rattle.std.specs.Prelude.{Some, ◌≡◌};
 ghost use Rattle.register.specs.Faults.{fault_layer, fault_number, fault_place, fault_text, fault_words};
 
 use crate::report::Report;
+use std::error::Error;
 use std::fmt;
 use terms::{Refusal, Ticket};
 
@@ -59,3 +60,5 @@ impl fmt::Display for Fault {
         self.report().fmt(f)
     }
 }
+
+impl Error for Fault {}

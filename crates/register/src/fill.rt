@@ -3,6 +3,7 @@ ghost use Rattle.std.specs.Prelude.{Some, ◌≡◌};
 ghost use Rattle.register.specs.Refusal.{no_room_layer, no_room_number, no_room_text, no_room_words};
 
 use crate::report::Report;
+use std::error::Error;
 use std::fmt;
 
 // The bytes below the mark are written.
@@ -46,3 +47,5 @@ impl fmt::Display for NoRoom {
         self.report().fmt(f)
     }
 }
+
+impl Error for NoRoom {}
