@@ -11,3 +11,4 @@ pub mod Reran
 pub mod Running
 pub mod Tied
 pub mod Told
+pub mod Words

@@ -10,18 +10,41 @@ use crate::refusal::OpenRefusal;
 use crate::stage::Stage;
 use directory::Directory;
 use std::alloc::Global;
+use std::error::Error;
+use std::fmt;
 use tape::Tape;
 use terms::Quote;
 
 // Two lists that were not played: both directories and both tapes, as they were.
 #[derive(Drop)]
+#[derive_where(Debug)]
 pub struct NotRerun<D, T, E, U> {
+    #[derive_where(skip)]
     pub directory: D,
+    #[derive_where(skip)]
     pub tape: T,
+    #[derive_where(skip)]
     pub other_directory: E,
+    #[derive_where(skip)]
     pub other_tape: U,
     pub why: OpenRefusal,
 }
+
+impl<D, T, E, U> fmt::Display for NotRerun<D, T, E, U> {
+    ghost use Rattle.std.specs.Fmt.{padded};
+    ghost use Rattle.std.specs.Prelude.{Some};
+    ghost use Rattle.book.specs.Words.{open_refusal_words};
+
+    ghost output = { λ e. Some (open_refusal_words e.why) };
+
+    ghost styled_output = { λ e spec. Some (padded spec (open_refusal_words e.why)) };
+
+    fn fmt<W: fmt::Write>(&self, f: &mut fmt::Formatter<W>) -> fmt::Result {
+        fmt::Display::fmt(&self.why, f)
+    }
+}
+
+impl<D: Drop, T: Drop, E: Drop, U: Drop> Error for NotRerun<D, T, E, U> {}
 
 // Two lists of calls, each on a new book at the quote, with directories and tapes of any makes. The law of whole days holds of
 // whatever comes out: ticks cannot change who trades, the tape explains discretion, and neither book stands crossed.

@@ -1,12 +1,17 @@
-ghost use Rattle.std.specs.Prelude.{◌≡◌};
+ghost use Rattle.std.specs.Fmt.{padded};
+ghost use Rattle.std.specs.Prelude.{Some, ◌≡◌};
+ghost use Rattle.book.specs.Words.{open_refusal_words};
 ghost use Rattle.book.specs.declared.refusal.OpenRefusal.TheVariants.{NoMemory};
+ghost use Rattle.rules.specs.Words.{refusal_words};
 
 use rules::Refusal;
 use std::alloc::AllocError;
+use std::error::Error;
+use std::fmt;
 use terms::Ticket;
 
 // A refused entry hands its ticket back.
-#[derive(Drop)]
+#[derive(Debug, Drop)]
 pub struct Rejected {
     pub ticket: Ticket,
     pub why: Refusal,
@@ -22,8 +27,11 @@ pub enum OpenRefusal {
 
 // A book that is not opened hands directory and tape back, as they were.
 #[derive(Drop)]
+#[derive_where(Debug)]
 pub struct NotOpened<D, T> {
+    #[derive_where(skip)]
     pub directory: D,
+    #[derive_where(skip)]
     pub tape: T,
     pub why: OpenRefusal,
 }
@@ -51,3 +59,42 @@ impl From<AllocError> for OpenRefusal {
         OpenRefusal::NoMemory
     }
 }
+
+impl fmt::Display for Rejected {
+    ghost output = { λ e. Some (refusal_words e.why) };
+
+    ghost styled_output = { λ e spec. Some (padded spec (refusal_words e.why)) };
+
+    fn fmt<W: fmt::Write>(&self, f: &mut fmt::Formatter<W>) -> fmt::Result {
+        fmt::Display::fmt(&self.why, f)
+    }
+}
+
+impl fmt::Display for OpenRefusal {
+    ghost output = { λ why. Some (open_refusal_words why) };
+
+    ghost styled_output = { λ why spec. Some (padded spec (open_refusal_words why)) };
+
+    fn fmt<W: fmt::Write>(&self, f: &mut fmt::Formatter<W>) -> fmt::Result {
+        f.pad(match self {
+            OpenRefusal::TapeUsed => "tape already has lines",
+            OpenRefusal::NoMemory => "no memory",
+        })
+    }
+}
+
+impl<D, T> fmt::Display for NotOpened<D, T> {
+    ghost output = { λ e. Some (open_refusal_words e.why) };
+
+    ghost styled_output = { λ e spec. Some (padded spec (open_refusal_words e.why)) };
+
+    fn fmt<W: fmt::Write>(&self, f: &mut fmt::Formatter<W>) -> fmt::Result {
+        fmt::Display::fmt(&self.why, f)
+    }
+}
+
+impl Error for Rejected {}
+
+impl Error for OpenRefusal {}
+
+impl<D: Drop, T: Drop> Error for NotOpened<D, T> {}
