@@ -2,9 +2,8 @@
 use Rattle.std.specs.Prelude.{ℕ, List, codes}
 use Rattle.register.specs.Reports.{told}
 use Rattle.register.specs.Faults.{fault_number, fault_layer, fault_place, fault_words}
-use Rattle.rules.specs.declared.refusal.Refusal.{Refusal}
-use Rattle.rules.specs.declared.refusal.Refusal.TheVariants as refusal
 use Rattle.rules.specs.Answers.{refusal_number}
+use Rattle.rules.specs.Words.{refusal_words}
 use Rattle.book_register.specs.declared.load.LoadFault.{LoadFault}
 use Rattle.book_register.specs.declared.load.LoadFault.TheVariants.{Register, SlipsFull, Book}
 use Rattle.book_register.specs.declared.slip.Slip.{Slip}
@@ -24,20 +23,10 @@ load_fault_place (Register e) = fault_place e
 load_fault_place (SlipsFull place) = place
 load_fault_place (Book why place) = place
 
--- why the book refuses an order
-abbrev pub book_words : Refusal → List ℕ
-book_words refusal.Identifier = codes "identifier not lawful"
-book_words refusal.Time = codes "time not of the day, or before the clock"
-book_words refusal.TapeShort = codes "too few free lines on the tape"
-book_words refusal.NameTaken = codes "identifier already rests"
-book_words refusal.BookFull = codes "book full"
-book_words refusal.EntriesSpent = codes "entries spent"
-book_words refusal.NoSuchOrder = codes "no such order"
-
 abbrev pub load_fault_words : LoadFault → List ℕ
 load_fault_words (Register e) = fault_words e
 load_fault_words (SlipsFull place) = codes "no place for a slip"
-load_fault_words (Book why place) = book_words why
+load_fault_words (Book why place) = refusal_words why
 
 -- as people read it: number, layer, place, words
 abbrev pub load_fault_text : LoadFault → List ℕ

@@ -1,6 +1,6 @@
 // A whole register.
 ghost use Rattle.std.specs.Prelude.{Some, ◌≡◌};
-ghost use Rattle.book_register.specs.Faults.{book_words, load_fault_layer, load_fault_number, load_fault_place, load_fault_text, load_fault_words, slip_of};
+ghost use Rattle.book_register.specs.Faults.{load_fault_layer, load_fault_number, load_fault_place, load_fault_text, load_fault_words, slip_of};
 ghost use Rattle.book_register.specs.Loaded.{Attempted, LoadedInto};
 ghost use Rattle.book_register.specs.declared.load.LoadFault.TheVariants.{Register};
 ghost use Rattle.register.specs.Parts.{listed_of};
@@ -11,6 +11,7 @@ use directory::Directory;
 use register::{Fault, Listed, Reader, Report};
 use roll::Roll;
 use rules::Refusal;
+use std::error::Error;
 use std::fmt;
 use tape::Tape;
 
@@ -75,21 +76,6 @@ pub(crate) fn load_order<D: Directory, T: Tape>(
     Ok(())
 }
 
-// Static, since the report of a fault keeps these words.
-fn why_refused(why: Refusal) -> &'static str
-    ensures { result.now ≡ book_words why }
-{
-    match why {
-        Refusal::Identifier => terms::Refusal::Identifier.words(),
-        Refusal::Time => "time not of the day, or before the clock",
-        Refusal::TapeShort => "too few free lines on the tape",
-        Refusal::NameTaken => "identifier already rests",
-        Refusal::BookFull => "book full",
-        Refusal::EntriesSpent => "entries spent",
-        Refusal::NoSuchOrder => "no such order",
-    }
-}
-
 impl LoadFault {
     pub fn report(self) -> Report
         ensures number { result.number ≡ load_fault_number self }
@@ -109,7 +95,7 @@ impl LoadFault {
                 number: why.number(),
                 layer: 4,
                 place,
-                words: why_refused(why),
+                words: why.words(),
             },
         }
     }
@@ -139,3 +125,5 @@ impl fmt::Display for LoadFault {
         self.report().fmt(f)
     }
 }
+
+impl Error for LoadFault {}
