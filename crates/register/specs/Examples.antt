@@ -1,5 +1,5 @@
 -- Worked examples, as one table: a question to the definitions, and its answer. The quote is 1000 by 1001.
-use Rattle.std.specs.Prelude.{◌≡◌, ℕ, true, false, List, [], ◌∷◌, map, length, replicate, ℤ, pos, negsuc, Some, None, Ok, Err, codes, Option, Result}
+use Rattle.std.specs.Prelude.{◌≡◌, ℕ, Bool, true, false, List, [], ◌∷◌, map, length, replicate, ℤ, pos, negsuc, Some, None, Ok, Err, codes, Option, Result}
 use Rattle.terms.specs.declared.side.Side.TheVariants.{Buy, Sell}
 use Rattle.terms.specs.declared.kind.Kind.TheVariants.{HiddenMdo}
 use Rattle.terms.specs.declared.time_in_force.TimeInForce.TheVariants.{Rest}
@@ -8,7 +8,7 @@ use Rattle.terms.specs.declared.refusal.Refusal.{Refusal}
 use Rattle.terms.specs.Codes.{refusal_number}
 use Rattle.terms.specs.Terms.{OrderTerms, ticket_from}
 use Rattle.terms.specs.Prices.{ranked, reach}
-use Rattle.terms.specs.Identifiers.{identifier_refusal}
+use Rattle.terms.specs.Identifiers.{lawful_identifier}
 use Rattle.register.specs.declared.fault.Fault.{Fault}
 use Rattle.register.specs.Layout.{Listed}
 use Rattle.register.specs.Reading.{Cursor, read_next}
@@ -23,6 +23,7 @@ pub data Question : Type 0 where
 pub data Answer : Type 0 where
   price : ℕ → Answer
   passes : Answer
+  fails : Answer
   refused : ℕ → Answer
   orders_and_rest : Listed → List ℕ → Answer
   nothing : Answer
@@ -32,9 +33,9 @@ abbrev pub outcome : Result OrderTerms Refusal → Answer
 outcome (Ok w) = passes
 outcome (Err e) = refused (refusal_number e)
 
-abbrev pub verdict : Option Refusal → Answer
-verdict None = passes
-verdict (Some e) = refused (refusal_number e)
+abbrev pub verdict : Bool → Answer
+verdict true = passes
+verdict false = fails
 
 abbrev pub reading : Option (Result Cursor Fault) → Answer
 reading None = nothing
@@ -45,7 +46,7 @@ abbrev pub answer_to : Question → Answer
 answer_to (ranked_price_of w) = price (ranked w 1000 1001)
 answer_to (reach_of w) = price (reach w false 1000 1001)
 answer_to (ticket_of d) = outcome (ticket_from d)
-answer_to (may_identify id) = verdict (identifier_refusal id)
+answer_to (may_identify id) = verdict (lawful_identifier id)
 answer_to (register_says bs) = reading (read_next (length bs) bs)
 
 -- buy, hidden MDO, rest, QDP (codes 1 4 1 1): 200 shares at a limit of 1001 cents
@@ -95,7 +96,7 @@ examples =
     ∷ ((ticket_of (buy_mdo (negsuc 99)), passes)
     ∷ ((ticket_of (buy_mdo (negsuc 100)), refused 4)
     ∷ ((may_identify (replicate 20 65), passes)
-    ∷ ((may_identify (replicate 21 65), refused 7)
+    ∷ ((may_identify (replicate 21 65), fails)
     ∷ ((register_says bytes_of_A1, orders_and_rest (record { identifier = codes "A1"; draft = buy_mdo (negsuc 0) }) [])
     ∷ []))))))))
 

@@ -50,4 +50,3 @@ refusal_number refusal.Limit = 3
 refusal_number refusal.Offset = 4
 refusal_number refusal.Combination = 5
 refusal_number refusal.Quote = 6
-refusal_number refusal.Identifier = 7

@@ -25,7 +25,6 @@ refusal_words refusal.Limit = codes "limit out of range"
 refusal_words refusal.Offset = codes "offset out of range"
 refusal_words refusal.Combination = codes "parts do not go together"
 refusal_words refusal.Quote = codes "quote not lawful"
-refusal_words refusal.Identifier = codes "identifier not lawful"
 
 -- 1998 half-cents are 9.990 dollars
 abbrev pub in_dollars : ℕ → List ℕ

@@ -7,7 +7,7 @@ ghost use Rattle.terms.specs.Shown.{refusal_words};
 use std::error::Error;
 use std::fmt;
 
-// Why a ticket, a quote or an identifier is refused, each with its number.
+// Why a ticket or a quote is refused, each with its number.
 #[derive(Clone, Copy, PartialEq, Eq, Debug, Drop)]
 pub enum Refusal {
     UnknownCode = 1,
@@ -16,7 +16,6 @@ pub enum Refusal {
     Offset = 4,
     Combination = 5,
     Quote = 6,
-    Identifier = 7,
 }
 
 impl Refusal {
@@ -37,7 +36,6 @@ impl Refusal {
             Refusal::Offset => "offset out of range",
             Refusal::Combination => "parts do not go together",
             Refusal::Quote => "quote not lawful",
-            Refusal::Identifier => "identifier not lawful",
         }
     }
 }
