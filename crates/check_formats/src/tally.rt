@@ -10,6 +10,8 @@ pub(crate) struct Tally {
     entered: u64,
     stops: [u32; 17],
     slips: [u32; 17],
+    // loads that other makes answer otherwise
+    differ: u32,
 }
 
 fn count_one(counts: &mut [u32], number: u8) {
@@ -30,8 +32,18 @@ impl Tally {
         }
     }
 
-    pub(crate) fn count_slip(&mut self, slip: Slip) {
-        count_one(&mut self.slips, slip.number);
+    pub(crate) fn count_slips(&mut self, slips: &[Slip]) {
+        for slip in slips {
+            count_one(&mut self.slips, slip.number);
+        }
+    }
+
+    pub(crate) fn compare(&mut self, alike: bool) {
+        self.differ = self.differ.saturating_add(u32::from(!alike));
+    }
+
+    pub(crate) fn alike(&self) -> bool {
+        self.differ == 0
     }
 }
 
@@ -56,6 +68,8 @@ impl fmt::Display for Tally {
         )?;
         write_counts(&self.stops, f)?;
         write!(f, "; slips")?;
-        write_counts(&self.slips, f)
+        write_counts(&self.slips, f)?;
+        let differ = self.differ;
+        write!(f, "; {differ} otherwise on other makes")
     }
 }

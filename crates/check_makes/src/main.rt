@@ -2,13 +2,11 @@
 #![tactic(auto)]
 
 mod agreement;
-mod ending;
 mod names;
 mod random;
 mod schedule;
 mod tapes;
 
-use crate::ending::Ending;
 use crate::names::pool;
 use crate::random::Random;
 use crate::schedule::{compare, fill};
@@ -18,8 +16,9 @@ use directory::{HashedDirectory, RowDirectory};
 use std::env;
 use std::process::ExitCode;
 
-fn run(rt: &HostRuntime) -> anyhow::Result<Ending> {
-    ensure!(env::args(rt)?.len() <= 1, "usage: makes_check");
+// True where the makes agree.
+fn run(rt: &HostRuntime) -> anyhow::Result<bool> {
+    ensure!(env::args(rt)?.len() <= 1, "usage: check_makes");
     let heap = rt.alloc();
     let names = pool(heap)?;
     let mut random = Random::new(20241);
@@ -33,17 +32,16 @@ fn run(rt: &HostRuntime) -> anyhow::Result<Ending> {
     println!(rt; "schedule: {tally}")?;
     let tape = compare_tapes(&mut random);
     println!(rt; "tapes: {tape}")?;
-    let agree = filled.agree() && tally.agree() && tape.agree();
-    Ok(Ending::of(agree))
+    Ok(filled.agree() && tally.agree() && tape.agree())
 }
 
 fn main(rt: HostRuntime) -> ExitCode {
-    let ending = match run(&rt) {
-        Ok(ending) => ending,
+    match run(&rt) {
+        Ok(true) => ExitCode::SUCCESS,
+        Ok(false) => ExitCode::FAILURE,
         Err(e) => {
-            let _ = eprintln!(rt; "makes_check: {e:#}");
-            Ending::Failed
+            let _ = eprintln!(rt; "check_makes: {e:#}");
+            ExitCode::from(2)
         }
-    };
-    ExitCode::from(ending)
+    }
 }

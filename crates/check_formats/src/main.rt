@@ -1,0 +1,43 @@
+// Answers what a format holds: each argument names a format, and they are answered in turn. The status is 0, 1 where something
+// differs, and 2 where arguments or input are bad or there is no memory.
+#![tactic(auto)]
+
+mod format;
+mod hex;
+mod prefixes;
+mod registers;
+mod stored;
+mod tally;
+mod trial;
+
+use crate::format::Format;
+use anyhow::Context;
+use std::env;
+use std::process::ExitCode;
+
+// True where nothing differs. All arguments are judged before a format is answered.
+fn run(rt: &HostRuntime) -> anyhow::Result<bool> {
+    let mut formats = Vec::new(rt.alloc());
+    for word in env::args(rt)?.skip(1) {
+        formats.push(Format::named(word.as_str()).context(Format::USAGE)?)?;
+    }
+    if formats.is_empty() {
+        anyhow::bail!("{}", Format::USAGE);
+    }
+    let mut alike = true;
+    for format in formats {
+        alike &= format.answer(rt)?;
+    }
+    Ok(alike)
+}
+
+fn main(rt: HostRuntime) -> ExitCode {
+    match run(&rt) {
+        Ok(true) => ExitCode::SUCCESS,
+        Ok(false) => ExitCode::FAILURE,
+        Err(e) => {
+            let _ = eprintln!(rt; "check_formats: {e:#}");
+            ExitCode::from(2)
+        }
+    }
+}
