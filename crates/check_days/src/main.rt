@@ -1,17 +1,28 @@
-// The day files that are named, each on the four pairs of makes; then entries until no more are accepted.
+// The day files that are named, on each of the four pairs of makes; then entries until no more are accepted.
 #![tactic(auto)]
 
 mod day;
-mod makes;
+mod spending;
 
-use crate::makes::{on_bytes, on_records};
+use crate::day::play;
+use crate::spending::spend_entries;
 use anyhow::Context;
-use directory::{HashedDirectory, RowDirectory};
+use day_file::{Makes, Output};
+use std::alloc::Global;
 use std::io::Write;
 use std::process::ExitCode;
 use std::{env, fs};
 
-// True where all pairs answer alike.
+fn answers(heap: Global, days: &[Vec<u8>], makes: Makes) -> anyhow::Result<Output> {
+    let mut out = Output::new(heap);
+    for day in days {
+        play(heap, makes, day.as_slice(), &mut out)?;
+    }
+    spend_entries(heap, makes, &mut out)?;
+    Ok(out)
+}
+
+// True where all makes answer alike.
 fn run(rt: &HostRuntime) -> anyhow::Result<bool> {
     let heap = rt.alloc();
     let mut days = Vec::new(heap);
@@ -21,18 +32,15 @@ fn run(rt: &HostRuntime) -> anyhow::Result<bool> {
         days.push(day)?;
     }
     let days = days.as_slice();
-    let rows = || RowDirectory::new(heap);
-    let hashed = || HashedDirectory::new(heap);
-    let first = on_records(heap, days, rows)?;
-    let first = first.as_bytes();
-    rt.stdout().write_all(first)?;
-    let rows_bytes = on_bytes(heap, days, rows)?.as_bytes() == first;
-    let hashed_records = on_records(heap, days, hashed)?.as_bytes() == first;
-    let hashed_bytes = on_bytes(heap, days, hashed)?.as_bytes() == first;
-    println!(rt; "the same on rows and bytes: {rows_bytes}")?;
-    println!(rt; "the same on hashed and records: {hashed_records}")?;
-    println!(rt; "the same on hashed and bytes: {hashed_bytes}")?;
-    Ok(rows_bytes && hashed_records && hashed_bytes)
+    let first = answers(heap, days, Makes::default())?;
+    rt.stdout().write_all(first.as_bytes())?;
+    let mut alike = true;
+    for makes in Makes::ALL.into_iter().skip(1) {
+        let same = answers(heap, days, makes)?.as_bytes() == first.as_bytes();
+        println!(rt; "the same on {makes}: {same}")?;
+        alike &= same;
+    }
+    Ok(alike)
 }
 
 fn main(rt: HostRuntime) -> ExitCode {

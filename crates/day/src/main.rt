@@ -8,36 +8,41 @@ mod options;
 mod registers;
 mod request;
 mod serving;
-mod tapes;
 
 use crate::failure::Failure;
 use crate::input::Input;
-use crate::options::Options;
 use crate::request::{HELP, Request};
-use crate::tapes::serve_on;
-use day_file::{Command, Expected, VERSION};
+use crate::serving::Serving;
+use day_file::{Frame, Makes, Opening, VERSION};
 use std::process::ExitCode;
 use std::{env, io};
-use terms::Quote;
 
-// The first command must open the book.
-fn answer(rt: &HostRuntime, options: Options) -> anyhow::Result<()> {
-    let mut input = Input::new(rt)?;
+// Reads up to the command that opens the book; None where the input ends before.
+fn opening(input: &mut Input, frame: &mut Frame) -> anyhow::Result<Option<Opening>> {
     // Nothing grows smaller while input is waited for: the lines are counted, so that the loop ends.
     for _ in 0..u64::MAX {
         let Some(line) = input.next_line()? else {
             break;
         };
-        match line.command()? {
-            None => {}
-            Some(Command::Book { bid, offer, lines }) => match Quote::new(bid, offer) {
-                Ok(quote) => return serve_on(rt, &mut input, options, quote, lines),
-                Err(why) => return Ok(println!(rt; "refused {}", why.number())?),
-            },
-            Some(_) => return Err(line.bad(Expected::Book).into()),
+        let opening = frame.opening(line)?;
+        if opening.is_some() {
+            return Ok(opening);
         }
     }
-    Ok(())
+    Ok(None)
+}
+
+fn answer(rt: &HostRuntime, makes: Makes) -> anyhow::Result<()> {
+    let mut input = Input::new(rt)?;
+    let mut frame = Frame::default();
+    let Some(opening) = opening(&mut input, &mut frame)? else {
+        return Ok(());
+    };
+    let lines = opening.lines;
+    match opening.quote {
+        Ok(quote) => makes.serve(rt.alloc(), quote, lines, Serving { rt, input, frame })?,
+        Err(why) => Ok(println!(rt; "refused {}", why.number())?),
+    }
 }
 
 fn arguments(rt: &HostRuntime) -> io::Result<Vec<String>> {
@@ -48,7 +53,7 @@ fn serve(rt: &HostRuntime, request: Request) -> anyhow::Result<()> {
     match request {
         Request::Help => Ok(rt.println(HELP)?),
         Request::Version => Ok(println!(rt; "day (Foszkelad) {VERSION}")?),
-        Request::Answer(options) => answer(rt, options),
+        Request::Answer(makes) => answer(rt, makes),
     }
 }
 

@@ -1,52 +1,27 @@
 // Which makes the book is built on; the answers are the same.
-use anyhow::anyhow;
+use anyhow::bail;
+use day_file::{DirectoryMake, Makes, TapeMake};
 
-#[derive(Clone, Copy, PartialEq, Eq, Debug, Default, Drop)]
-pub enum DirectoryMake {
-    #[default]
-    Rows,
-    Hashed,
-}
-
-#[derive(Clone, Copy, PartialEq, Eq, Debug, Default, Drop)]
-pub enum TapeMake {
-    #[default]
-    Records,
-    Bytes,
-}
-
-#[derive(Clone, Copy, PartialEq, Eq, Debug, Default, Drop)]
-pub struct Options {
-    pub directory: DirectoryMake,
-    pub tape: TapeMake,
-}
-
-impl Options {
-    fn set(&mut self, name: &str, value: &str) -> anyhow::Result<()> {
-        match (name, value) {
-            ("--directory", "rows") => self.directory = DirectoryMake::Rows,
-            ("--directory", "hashed") => self.directory = DirectoryMake::Hashed,
-            ("--tape", "records") => self.tape = TapeMake::Records,
-            ("--tape", "bytes") => self.tape = TapeMake::Bytes,
-            _ => {
-                return Err(anyhow!(
-                    "usage: day [--directory rows|hashed] [--tape records|bytes] < DAYFILE; not '{name} {value}'"
-                ));
-            }
-        }
-        Ok(())
+fn set(makes: &mut Makes, name: &str, value: &str) -> anyhow::Result<()> {
+    match (name, DirectoryMake::named(value), TapeMake::named(value)) {
+        ("--directory", Some(make), _) => makes.directory = make,
+        ("--tape", _, Some(make)) => makes.tape = make,
+        _ => bail!(
+            "usage: day [--directory rows|hashed] [--tape records|bytes] < DAYFILE; not '{name} {value}'"
+        ),
     }
+    Ok(())
+}
 
-    // Names and values in turn.
-    pub fn read(args: &[String]) -> anyhow::Result<Options> {
-        let mut options = Options::default();
-        for pair in args.chunks(2) {
-            match pair {
-                [name, value] => options.set(name.as_str(), value.as_str())?,
-                [name] => options.set(name.as_str(), "")?,
-                _ => {}
-            }
+// Names and values in turn.
+pub fn read_makes(args: &[String]) -> anyhow::Result<Makes> {
+    let mut makes = Makes::default();
+    for pair in args.chunks(2) {
+        match pair {
+            [name, value] => set(&mut makes, name.as_str(), value.as_str())?,
+            [name] => set(&mut makes, name.as_str(), "")?,
+            _ => {}
         }
-        Ok(options)
     }
+    Ok(makes)
 }

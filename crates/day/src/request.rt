@@ -1,5 +1,6 @@
 // What the arguments ask for.
-use crate::options::Options;
+use crate::options::read_makes;
+use day_file::Makes;
 
 pub const HELP: &str = "\
 usage: day [--directory rows|hashed] [--tape records|bytes] < DAYFILE
@@ -25,7 +26,7 @@ Exit status:
 pub enum Request {
     Help,
     Version,
-    Answer(Options),
+    Answer(Makes),
 }
 
 impl Request {
@@ -37,6 +38,6 @@ impl Request {
                 _ => {}
             }
         }
-        Options::read(args).map(Request::Answer)
+        read_makes(args).map(Request::Answer)
     }
 }

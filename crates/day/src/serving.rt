@@ -1,17 +1,22 @@
 // The commands after the first, on a book of any makes.
-use crate::input::{Input, InputLine};
+use crate::input::Input;
 use crate::registers::{load, write};
-use anyhow::Context;
-use day_file::{Command, Desk, Expected, Output};
+use day_file::{Command, Desk, Frame, Output, Serve};
 use directory::Directory;
 use std::io;
 use std::io::Write;
 use std::ops::ControlFlow;
 use tape::Tape;
-use terms::Quote;
 
 // So much is gathered before it is printed, where more input is at hand.
 const GATHERED: usize = 65536;
+
+#[derive(Drop)]
+pub struct Serving<'a> {
+    pub rt: &'a HostRuntime,
+    pub input: Input,
+    pub frame: Frame,
+}
 
 fn print(rt: &HostRuntime, out: &mut Output) -> io::Result<()> {
     rt.stdout().write_all(out.as_bytes())?;
@@ -22,18 +27,18 @@ fn print(rt: &HostRuntime, out: &mut Output) -> io::Result<()> {
 // Breaks where the book is to be closed.
 fn serve_line<D: Directory, T: Tape>(
     rt: &HostRuntime,
-    line: InputLine<'_>,
+    frame: &mut Frame,
+    line: &[u8],
     desk: &mut Desk<D, T>,
     out: &mut Output,
 ) -> anyhow::Result<ControlFlow<()>> {
-    let Some(command) = line.command()? else {
+    let Some(command) = frame.command(line)? else {
         return Ok(ControlFlow::Continue(()));
     };
     match command {
-        Command::Book { .. } => return Err(line.bad(Expected::Book).into()),
         Command::Close => return Ok(ControlFlow::Break(())),
-        Command::Load { time, file } => load(rt, line, desk, time, file, out)?,
-        Command::Write { file } => write(rt, line, desk, file, out)?,
+        Command::Load { time, file } => load(rt, frame.line(), desk, time, file, out)?,
+        Command::Write { file } => write(rt, frame.line(), desk, file, out)?,
         _ => {
             desk.answer(&command, out)?;
         }
@@ -41,45 +46,43 @@ fn serve_line<D: Directory, T: Tape>(
     Ok(ControlFlow::Continue(()))
 }
 
-// Breaks where the book is to be closed, goes on where the input ends. Answers are printed before reading may have to wait.
-fn serve_lines<D: Directory, T: Tape>(
-    rt: &HostRuntime,
-    input: &mut Input,
-    desk: &mut Desk<D, T>,
-    out: &mut Output,
-) -> anyhow::Result<ControlFlow<()>> {
-    // Nothing grows smaller while input is waited for: the lines are counted, so that the loop ends.
-    for _ in 0..u64::MAX {
-        if out.len() >= GATHERED || input.may_wait() {
-            print(rt, out)?;
+impl Serving<'_> {
+    // Breaks where the book is to be closed, goes on where the input ends. Answers are printed before reading may have to wait.
+    fn serve_lines<D: Directory, T: Tape>(
+        &mut self,
+        desk: &mut Desk<D, T>,
+        out: &mut Output,
+    ) -> anyhow::Result<ControlFlow<()>> {
+        // Nothing grows smaller while input is waited for: the lines are counted, so that the loop ends.
+        for _ in 0..u64::MAX {
+            if out.len() >= GATHERED || self.input.may_wait() {
+                print(self.rt, out)?;
+            }
+            let Some(line) = self.input.next_line()? else {
+                break;
+            };
+            if serve_line(self.rt, &mut self.frame, line, desk, out)?.is_break() {
+                return Ok(ControlFlow::Break(()));
+            }
         }
-        let Some(line) = input.next_line()? else {
-            break;
-        };
-        if serve_line(rt, line, desk, out)?.is_break() {
-            return Ok(ControlFlow::Break(()));
-        }
+        Ok(ControlFlow::Continue(()))
     }
-    Ok(ControlFlow::Continue(()))
 }
 
-pub fn serve<D: Directory + Drop, T: Tape + Drop>(
-    rt: &HostRuntime,
-    input: &mut Input,
-    quote: Quote,
-    directory: D,
-    tape: T,
-) -> anyhow::Result<()> {
-    let heap = rt.alloc();
-    let mut out = Output::new(heap);
-    let mut desk = Desk::open(heap, quote, directory, tape)
-        .ok()
-        .context("no memory for the book")?;
-    out.line("opened", &[])?;
-    let served = serve_lines(rt, input, &mut desk, &mut out);
-    if let Ok(ControlFlow::Break(())) = served {
-        desk.close(&mut out)?;
+impl Serve for Serving<'_> {
+    type Served = anyhow::Result<()>;
+
+    fn serve<D: Directory + Drop, T: Tape + Drop>(
+        mut self,
+        mut desk: Desk<D, T>,
+    ) -> anyhow::Result<()> {
+        let mut out = Output::new(self.rt.alloc());
+        out.line("opened", &[])?;
+        let served = self.serve_lines(&mut desk, &mut out);
+        if let Ok(ControlFlow::Break(())) = served {
+            desk.close(&mut out)?;
+        }
+        print(self.rt, &mut out)?;
+        served.map(|_| ())
     }
-    print(rt, &mut out)?;
-    served.map(|_| ())
 }

@@ -3,7 +3,7 @@
 use crate::load::Load;
 use anyhow::Context;
 use book::Call;
-use day_file::{BadLine, Command, Expected, read_command};
+use day_file::{Command, Frame};
 use register::Reader;
 use std::alloc::{AllocError, Global};
 use std::fs;
@@ -13,7 +13,7 @@ use terms::{Quote, Ticket};
 pub struct Day {
     pub quote: Quote,
     // how many lines the tape has room for
-    pub lines: u64,
+    pub lines: usize,
     pub calls: Vec<Call>,
     pub loads: Vec<Load>,
 }
@@ -72,39 +72,37 @@ fn add(heap: Global, command: &Command, calls: &mut Vec<Call>) -> Result<(), All
     Ok(())
 }
 
-// The lines up to the close or the end. None where the quote of the first command is not lawful, so that there is no book.
+// The lines up to the close or the end. None where there is no book: no command opens one, or its quote is not lawful.
 pub fn read_day(rt: &HostRuntime, text: &[u8]) -> anyhow::Result<Option<Day>> {
     let heap = rt.alloc();
-    let mut day = None;
-    for (number, line) in (1u64..).zip(text.split(|byte| *byte == b'\n')) {
-        let command = read_command(line).map_err(|expected| BadLine { number, expected })?;
-        match (command, &mut day) {
-            (None, _) => {}
-            (Some(Command::Book { bid, offer, lines }), None) => {
-                let Ok(quote) = Quote::new(bid, offer) else {
-                    return Ok(None);
-                };
-                day = Some(Day {
-                    quote,
-                    lines,
-                    calls: Vec::new(heap),
-                    loads: Vec::new(heap),
-                });
-            }
-            (Some(Command::Close), Some(_)) => break,
-            (Some(Command::Book { .. }), Some(_)) | (Some(_), None) => {
-                let expected = Expected::Book;
-                return Err(BadLine { number, expected }.into());
-            }
-            (Some(Command::Load { time, file }), Some(day)) => {
+    let mut frame = Frame::default();
+    let Some(opening) = frame.open(text)? else {
+        return Ok(None);
+    };
+    let Ok(quote) = opening.quote else {
+        return Ok(None);
+    };
+    let mut calls = Vec::new(heap);
+    let mut loads = Vec::new(heap);
+    let taken = frame.line() as usize;
+    for line in text.split(|byte| *byte == b'\n').skip(taken) {
+        match frame.command(line)? {
+            None => {}
+            Some(Command::Close) => break,
+            Some(Command::Load { time, file }) => {
+                let number = frame.line();
                 let register = fs::read(rt, file).context(format_args!(
                     "line {number}: cannot read {file}"
                 ))?;
-                let load = entries(heap, time, register.as_slice(), &mut day.calls)?;
-                day.loads.push(load)?;
+                loads.push(entries(heap, time, register.as_slice(), &mut calls)?)?;
             }
-            (Some(command), Some(day)) => add(heap, &command, &mut day.calls)?,
+            Some(command) => add(heap, &command, &mut calls)?,
         }
     }
-    Ok(day)
+    Ok(Some(Day {
+        quote,
+        lines: opening.lines,
+        calls,
+        loads,
+    }))
 }

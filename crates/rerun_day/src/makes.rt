@@ -1,22 +1,19 @@
 // The day as it is on rows and records, the other list on a hashed directory and bytes.
 use crate::day::Day;
 use crate::verdict::Verdict;
-use anyhow::{Context, bail};
+use anyhow::bail;
 use book::{Call, rerun};
+use day_file::{byte_room, record_room};
 use directory::{HashedDirectory, RowDirectory};
 use std::alloc::Global;
-use tape::{ByteTape, LINE_BYTES, Line, RecordTape};
+use tape::{ByteTape, RecordTape};
 
 // The rooms stand here, where the tapes that borrow them are made.
 pub fn on_makes(heap: Global, day: &Day, other_calls: &[Call]) -> anyhow::Result<Verdict> {
     let calls = day.calls.as_slice();
     let loads = day.loads.as_slice();
-    let lines = day.lines as usize;
-    let size = lines
-        .checked_mul(LINE_BYTES)
-        .context("no memory for the tape")?;
-    let mut records = vec![in heap; Line::default(); lines]?;
-    let mut bytes = vec![in heap; 0u8; size]?;
+    let mut records = record_room(heap, day.lines)?;
+    let mut bytes = byte_room(heap, day.lines)?;
     let Ok((first, second)) = rerun(
         heap,
         day.quote,
