@@ -1,5 +1,4 @@
 // Two runs held against each other.
-use crate::lists::is_tick;
 use crate::load::Load;
 use crate::verdict::{Alike, Difference, Finding, Silence, Verdict};
 use book::{Answer, Book, Call, Played};
@@ -16,7 +15,7 @@ fn shared_answers(
     calls
         .iter()
         .zip(answers)
-        .filter(|(call, _)| !is_tick(call))
+        .filter(|(call, _)| !call.is_tick())
         .map(|(_, answer)| *answer)
         .collect(heap)
 }

@@ -3,48 +3,15 @@ use book::Call;
 use rules::LAST_MOMENT;
 use std::alloc::{AllocError, Global};
 
-fn time_of(call: &Call) -> u64 {
-    match call {
-        Call::Entry { time, .. }
-        | Call::Cancel { time, .. }
-        | Call::Quote { time, .. }
-        | Call::Tick { time } => *time,
-    }
-}
-
-pub fn is_tick(call: &Call) -> bool {
-    matches!(call, Call::Tick { .. })
-}
-
 fn is_tick_of_day(call: &Call) -> bool {
-    is_tick(call) && time_of(call) <= LAST_MOMENT
-}
-
-// The same call once more. A ticket is never copied, so that a call has no Clone.
-fn again(heap: Global, call: &Call) -> Result<Call, AllocError> {
-    Ok(match call {
-        Call::Entry { time, id, ticket } => Call::Entry {
-            time: *time,
-            id: id.as_slice().to_vec(heap)?,
-            ticket: ticket.again(),
-        },
-        Call::Cancel { time, id } => Call::Cancel {
-            time: *time,
-            id: id.as_slice().to_vec(heap)?,
-        },
-        Call::Quote { time, quote } => Call::Quote {
-            time: *time,
-            quote: *quote,
-        },
-        Call::Tick { time } => Call::Tick { time: *time },
-    })
+    call.is_tick() && call.time() <= LAST_MOMENT
 }
 
 // The latest time of the day that a call has.
 pub fn latest(calls: &[Call]) -> u64 {
     calls
         .iter()
-        .map(time_of)
+        .map(|call| call.time())
         .filter(|time| *time <= LAST_MOMENT)
         .max()
         .unwrap_or(0)
@@ -55,8 +22,8 @@ fn earliest_to_come(heap: Global, calls: &[Call]) -> Result<Vec<u64>, AllocError
     let mut earliest = u64::MAX;
     let mut times = Vec::with_capacity(heap, calls.len())?;
     for call in calls.iter().rev() {
-        if !is_tick(call) {
-            earliest = earliest.min(time_of(call));
+        if !call.is_tick() {
+            earliest = earliest.min(call.time());
         }
         times.push(earliest)?;
     }
@@ -76,7 +43,7 @@ pub fn with_ticks(
     let mut list = Vec::new(heap);
     let mut ends = ends;
     for (call, earliest) in calls.iter().zip(to_come.iter()) {
-        if is_tick(call) {
+        if call.is_tick() {
             continue;
         }
         let due = ends
@@ -87,7 +54,7 @@ pub fn with_ticks(
             list.push(Call::Tick { time: *end })?;
         }
         ends = &ends[due..];
-        list.push(again(heap, call)?)?;
+        list.push(call.again(heap)?)?;
     }
     list.push(Call::Tick { time: last })?;
     Ok(list)
@@ -98,6 +65,6 @@ pub fn with_ticks(
 pub fn tick_too_late(heap: Global, calls: &[Call]) -> Result<Option<u64>, AllocError> {
     let to_come = earliest_to_come(heap, calls)?;
     let late = calls.iter().zip(to_come.iter()).find(|(call, earliest)| is_tick_of_day(call)
-        && time_of(call) > **earliest);
-    Ok(late.map(|(tick, _)| time_of(tick)))
+        && call.time() > **earliest);
+    Ok(late.map(|(tick, _)| tick.time()))
 }
