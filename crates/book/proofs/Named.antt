@@ -1,5 +1,5 @@
 -- The directory's answer and the rule book's: an identifier names the row that it names among the orders, if all rows rest.
--- Cite found_none, found_some and has_pairs.
+-- Cite found_none, found_some, distinct_names and has_pairs.
 use Rattle.std.proofs.Common.{◌≡◌, ℕ, ◌<◌, true, false, eqb, ltb, ◌⊎◌, List, [], ◌∷◌, length, map, Some, None, Option, sym, refl, ap, ◌∙◌, subst, inl, inr, arith}
 use Rattle.std.specs.Option.{option_map}
 use Rattle.std.proofs.lemmas.Bool.{cases_Bool, and_parts, ltb-true, ne_eqb, eq-eqb}
@@ -9,8 +9,8 @@ use Rattle.rules.proofs.Cases.{if_true, if_false}
 use Rattle.market.specs.declared.row.Row.{Row}
 use Rattle.market.specs.Rows.{row_order, rising, orders_in}
 use Rattle.market.specs.Changes.{AllRest}
-use Rattle.book.specs.Tied.{Tied, row_name, number_named}
-use Rattle.book.specs.Closing.{HasPairsOf}
+use Rattle.book.specs.Tied.{Apart, Tied, row_name, number_named}
+use Rattle.book.specs.Closing.{DistinctNames, HasPairsOf}
 
 -- the order that an identifier names, with its number, which no other order has
 pub record Found (id : List ℕ) (k : ℕ) (os : List Order) : Type 0 where
@@ -86,6 +86,14 @@ module _ (id : List ℕ) where
           if_false (same_bytes (row_name r) id) (Some r.number) (number_named id rs) h
           ∙ ih
           ∙ sym (ap (option_map (λ (o : Order). o.number)) (if_false (same_bytes (row_name r) id) (Some (row_order r)) (named id (map row_order rs)) h))
+
+distinct_orders : (rs : List Row) → Apart rs → DistinctNames (map row_order rs)
+distinct_orders [] a = tt
+distinct_orders (r ∷ rs) a = (none_named (row_name r) rs a.0, distinct_orders rs a.1)
+
+-- the resting orders have names of their own
+pub distinct_names : (rs : List Row) → Apart rs → AllRest rs → DistinctNames (orders_in rs)
+distinct_names rs a all = subst DistinctNames all.orders (distinct_orders rs a)
 
 length_mapped : (rs : List Row) → length (map row_order rs) ≡ length rs
 length_mapped [] = refl

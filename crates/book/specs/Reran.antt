@@ -18,6 +18,7 @@ use Rattle.book.specs.Replayed.{run_of}
 pub record PlayedThrough {D T : Type 0} (t : TapeOf T) (bid offer : ℕ) (tape : T) (calls : List Call) (p : Played D T) : Type 0 where
   pub empty : t.lines tape ≡ []
   pub ran : run_of (vec_items p.answers) p.book ≡ run (t.free tape) (calls_of calls) (opened bid offer)
+  pub room : p.book.room ≡ t.free tape
 
 -- a used tape is told only where one of the two tapes is used; memory is asked for once the first is known to be empty
 abbrev pub BecauseEither : {T U : Type 0} → TapeOf T → T → TapeOf U → U → OpenRefusal → Type 0

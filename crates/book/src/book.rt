@@ -1,7 +1,7 @@
 ghost use Rattle.std.specs.Option.{option_map};
-ghost use Rattle.std.specs.Prelude.{IfErr, MatchOption, MatchResult, None, [], length, map, ◌-◌, ◌≡◌};
+ghost use Rattle.std.specs.Prelude.{IfErr, MatchOption, MatchResult, None, [], length, map, ◌+◌, ◌≡◌};
 ghost use Rattle.book.specs.Carried.{cancel_answer, cancel_numbers, entry_numbers, entry_told, plain_numbers, quote_answer, tick_answer};
-ghost use Rattle.book.specs.Closing.{HasPairsOf};
+ghost use Rattle.book.specs.Closing.{DistinctNames, HasPairsOf};
 ghost use Rattle.book.specs.Explaining.{Explained};
 ghost use Rattle.book.specs.Opening.{HandedBack};
 ghost use Rattle.book.specs.Running.{Reached, after, answer_to, new_on, told_of};
@@ -135,6 +135,7 @@ impl<D: Directory, T: Tape> Book<D, T> {
         ensures reached { Reached self.now }
         ensures explained { DiscretionExplained self.now.book }
         ensures never_crossed { Uncrossed self.now.book.market }
+        ensures distinct { DistinctNames self.now.book.market.orders }
     {
         self.engine.market.table.rows()
     }
@@ -159,7 +160,7 @@ impl<D: Directory, T: Tape> Book<D, T> {
         ensures figures { figures_as result.0 ≡ closing self.book.market }
         ensures names { HasPairsOf self.book.market.orders (D.Directory.number result.1) (D.Directory.count result.1) }
         ensures lines { T.Tape.lines result.2 ≡ self.book.market.tape }
-        ensures free { T.Tape.free result.2 ≡ self.room - length self.book.market.tape }
+        ensures room { length (T.Tape.lines result.2) + T.Tape.free result.2 ≡ self.room }
     {
         let Engine {
             directory,

@@ -89,6 +89,11 @@ impl Tally {
         self.compare_told(one, other);
         self.removes.count(one);
     }
+
+    // Both hold as many pairs.
+    fn compare_len<A: Directory, B: Directory>(&mut self, one: &A, other: &B) {
+        self.agreement.compare(&one.len(), &other.len());
+    }
 }
 
 // Written against the trait alone: what is put is found, with any make.
@@ -107,6 +112,7 @@ pub fn fill<A: Directory, B: Directory>(one: &mut A, other: &mut B, names: &[Vec
     for (name, number) in names.iter().zip(1u32..) {
         tally.count_put(one.put(name, number), other.put(name, number));
         tally.count_find(one.find(name), other.find(name));
+        tally.compare_len(one, other);
     }
     tally
 }
@@ -131,6 +137,7 @@ pub fn compare<A: Directory, B: Directory>(
             4 => tally.count_find(one.find(name), other.find(name)),
             _ => tally.count_remove(one.remove(name), other.remove(name)),
         }
+        tally.compare_len(one, other);
     }
     tally
 }

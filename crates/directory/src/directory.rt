@@ -1,4 +1,4 @@
-ghost use Rattle.std.specs.Prelude.{List, MatchOption, MatchResult, Option as Maybe, ℕ, ◌≡◌};
+ghost use Rattle.std.specs.Prelude.{◌≤◌, List, MatchOption, MatchResult, Option as Maybe, ℕ, ◌≡◌};
 ghost use Rattle.directory.specs.Pairs.{Added, Emptied, Kept, RefusedPut, Removed};
 
 use std::error::Error;
@@ -41,6 +41,11 @@ pub trait Directory {
     ghost number: { Self → List ℕ → Maybe ℕ };
 
     ghost count: { Self → ℕ };
+
+    // How many pairs there are.
+    fn len(&self) -> usize
+        ensures told { result ≡ count self.now }
+        ensures few { count self.now ≤ 64 };
 
     // The entry number of an identifier, or none.
     fn find(&self, id: &[u8]) -> Option<u32>

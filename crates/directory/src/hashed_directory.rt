@@ -75,6 +75,10 @@ impl Directory for HashedDirectory {
 
     ghost count = { λ d. hashed_count d };
 
+    fn len(&self) -> usize {
+        self.held
+    }
+
     fn find(&self, id: &[u8]) -> Option<u32> {
         match self.look(id) {
             Spot::Taken { number, .. } => Some(number),

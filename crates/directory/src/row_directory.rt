@@ -37,6 +37,10 @@ impl Directory for RowDirectory {
 
     ghost count = { λ d. length d };
 
+    fn len(&self) -> usize {
+        self.rows.len()
+    }
+
     fn find(&self, id: &[u8]) -> Option<u32> {
         let i = self.row_of(id)?;
         Some(self.rows[i].number)
