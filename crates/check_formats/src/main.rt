@@ -11,7 +11,7 @@ mod tally;
 mod trial;
 
 use crate::format::Format;
-use anyhow::Context;
+use anyhow::{Context, ensure};
 use std::env;
 use std::process::ExitCode;
 
@@ -21,9 +21,7 @@ fn run(rt: &HostRuntime) -> anyhow::Result<bool> {
     for word in env::args(rt)?.skip(1) {
         formats.push(Format::named(word.as_str()).context(Format::USAGE)?)?;
     }
-    if formats.is_empty() {
-        anyhow::bail!("{}", Format::USAGE);
-    }
+    ensure!(!formats.is_empty(), "{}", Format::USAGE);
     let mut alike = true;
     for format in formats {
         alike &= format.answer(rt)?;
