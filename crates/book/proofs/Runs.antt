@@ -1,11 +1,13 @@
--- What a call that is carried out means to whoever sees the book alone. Cite told, left_so, kept and reached.
+-- What a call that is carried out means to whoever sees the book alone. Cite told, left_so, kept, grows and reached.
 use Rattle.std.proofs.Common.{◌≡◌, ℕ, ◌-◌, length, sym, ap, ◌∙◌, subst, arith}
 use Rattle.tape.specs.declared.tape.Tape.{Ghosts as TapeOf}
 use Rattle.directory.specs.declared.directory.Directory.{Ghosts as DirectoryOf}
+use Rattle.rules.specs.Growth.{TapeGrows}
 use Rattle.rules.specs.Market.{Book}
 use Rattle.rules.specs.Answers.{Answer}
 use Rattle.rules.specs.Calls.{Call, call}
 use Rattle.rules.specs.Runs.{opened, run}
+use Rattle.rules.proofs.Grown.{tape_only_grows}
 use Rattle.book.specs.declared.engine.Engine.{Engine}
 use Rattle.book.specs.Books.{book_of, Sound, KnowsRoom}
 use Rattle.book.specs.Carried.{Carried}
@@ -23,6 +25,11 @@ reached d t b s view holds =
     let r = holds.0.reached in
     subst Reached view (record { bid = r.bid; offer = r.offer; calls = r.calls; is = r.is ∙ ap (λ n. (run n r.calls (opened r.bid r.offer)).book) (sym holds.1) })
 
+grown : (s : Running) (c : Call) → Reached s → TapeGrows s.book (after s c).book
+grown s c r =
+    let free : ℕ = s.room - length s.book.market.tape in
+    subst (λ (b : Book). TapeGrows b (call free c b).book) (sym r.is) (tape_only_grows r.bid r.offer s.room free r.calls c)
+
 module _ {D T : Type 0} (d : DirectoryOf D) (t : TapeOf T) (b later : Engine D T) (s : Running) (c : Call) (a : Answer) (view : running t b ≡ s) (holds : Sound d t b × KnowsRoom t b) (carried : Carried d t b later c a) where
   free : t.free b.market.tape ≡ b.room - length (t.lines b.market.tape)
   free = omega (arith, holds.1)
@@ -35,3 +42,6 @@ module _ {D T : Type 0} (d : DirectoryOf D) (t : TapeOf T) (b later : Engine D T
 
   pub kept : Sound d t later × KnowsRoom t later
   kept = (carried.sound, omega (arith, holds.1, carried.capacity, carried.room))
+
+  pub grows : TapeGrows s.book (running t later).book
+  grows = subst (λ (z : Running). TapeGrows s.book z.book) (sym left_so) (grown s c (reached d t b s view holds))

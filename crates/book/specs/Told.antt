@@ -1,6 +1,6 @@
 -- Calls and answers as the rule book's.
 use Rattle.std.specs.Prelude.{List, map, Ok, Err, Result, vec_items}
-use Rattle.terms.specs.Made.{terms_of}
+use Rattle.terms.specs.Made.{ticket_terms}
 use Rattle.rules.specs.declared.refusal.Refusal.{Refusal}
 use Rattle.rules.specs.Calls.{Call as RuleCall, entry, cancel, quote, tick}
 use Rattle.rules.specs.Answers.{Answer as RuleAnswer, entered, cancelled, quoted, ticked, refused}
@@ -10,7 +10,7 @@ use Rattle.book.specs.declared.call.Answer.{Answer}
 use Rattle.book.specs.declared.call.Answer.TheVariants.{Entered, Cancelled, Quoted, Ticked, Refused}
 
 abbrev pub call_of : Call → RuleCall
-call_of (Entry time id ticket) = entry time (vec_items id) (terms_of ticket.terms)
+call_of (Entry time id ticket) = entry time (vec_items id) (ticket_terms ticket)
 call_of (Cancel time id) = cancel time (vec_items id)
 call_of (Quote time q) = quote time q.bid q.offer
 call_of (Tick time) = tick time

@@ -9,9 +9,10 @@ ghost use Rattle.market.specs.Meant.{figures_as, standing_as};
 ghost use Rattle.market.specs.Rows.{row_order};
 ghost use Rattle.roll.specs.Rolls.{at_place};
 ghost use Rattle.rules.specs.Calls.{cancel as cancel_of, entry as entry_of, named, quote as quote_of, tick as tick_of};
+ghost use Rattle.rules.specs.Growth.{TapeGrows};
 ghost use Rattle.rules.specs.Laws.{DiscretionExplained, Uncrossed};
 ghost use Rattle.rules.specs.Questions.{Answered, closing};
-ghost use Rattle.terms.specs.Made.{terms_of};
+ghost use Rattle.terms.specs.Made.{ticket_terms};
 
 use crate::engine::Engine;
 use crate::explanation::Explanation;
@@ -65,9 +66,10 @@ impl<D: Directory, T: Tape> Book<D, T> {
         id: &[u8],
         ticket: Ticket,
     ) -> Result<(u32, u32, u32), Rejected>
-        ensures answer { entry_told result ≡ answer_to self.old (entry_of time id.now (terms_of ticket.terms)) }
-        ensures told { entry_numbers result ≡ told_of self.old (entry_of time id.now (terms_of ticket.terms)) }
-        ensures book { self.new ≡ after self.old (entry_of time id.now (terms_of ticket.terms)) }
+        ensures answer { entry_told result ≡ answer_to self.old (entry_of time id.now (ticket_terms ticket)) }
+        ensures told { entry_numbers result ≡ told_of self.old (entry_of time id.now (ticket_terms ticket)) }
+        ensures book { self.new ≡ after self.old (entry_of time id.now (ticket_terms ticket)) }
+        ensures grows { TapeGrows self.old.book self.new.book }
         ensures handed_back { IfErr result (λ e. e.ticket ≡ ticket) }
     {
         let terms = ticket.terms();
@@ -80,6 +82,7 @@ impl<D: Directory, T: Tape> Book<D, T> {
         ensures answer { cancel_answer result ≡ answer_to self.old (cancel_of time id.now) }
         ensures told { cancel_numbers result ≡ told_of self.old (cancel_of time id.now) }
         ensures book { self.new ≡ after self.old (cancel_of time id.now) }
+        ensures grows { TapeGrows self.old.book self.new.book }
     {
         self.engine.cancel(time, id)
     }
@@ -89,6 +92,7 @@ impl<D: Directory, T: Tape> Book<D, T> {
         ensures answer { quote_answer result ≡ answer_to self.old (quote_of time quote.bid quote.offer) }
         ensures told { plain_numbers result ≡ told_of self.old (quote_of time quote.bid quote.offer) }
         ensures book { self.new ≡ after self.old (quote_of time quote.bid quote.offer) }
+        ensures grows { TapeGrows self.old.book self.new.book }
     {
         self.engine.quote(time, quote)
     }
@@ -98,6 +102,7 @@ impl<D: Directory, T: Tape> Book<D, T> {
         ensures answer { tick_answer result ≡ answer_to self.old (tick_of time) }
         ensures told { plain_numbers result ≡ told_of self.old (tick_of time) }
         ensures book { self.new ≡ after self.old (tick_of time) }
+        ensures grows { TapeGrows self.old.book self.new.book }
     {
         self.engine.advance(time)
     }

@@ -23,7 +23,7 @@ use terms::{Identifier, Quote, Terms, TimeInForce, lawful_identifier};
 // Between calls it is sound, as `Book` says; while a call runs it need not be. `room` is how many lines the tape had free when the
 // book was opened.
 #[derive(Drop)]
-pub struct Engine<D: Directory, T: Tape> {
+pub(crate) struct Engine<D: Directory, T: Tape> {
     pub(crate) directory: D,
     pub(crate) market: Market<T>,
     pub(crate) clock: u64,

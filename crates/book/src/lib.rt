@@ -14,8 +14,6 @@ mod stage;
 pub use book::Book;
 pub use both_runs::{NotRerun, rerun};
 pub use call::{Answer, Call};
-pub use engine::Engine;
 pub use explanation::Explanation;
 pub use played::{Played, carry_out, play, replay};
-pub use prepared::Prepared;
 pub use refusal::{NotOpened, OpenRefusal, Rejected};

@@ -15,7 +15,7 @@ use terms::Quote;
 
 // A directory and an empty tape, both as they were handed over, and all memory that the book will ever use.
 #[derive(Drop)]
-pub struct Prepared<D: Directory, T: Tape> {
+pub(crate) struct Prepared<D: Directory, T: Tape> {
     pub(crate) directory: D,
     pub(crate) tape: T,
     pub(crate) table: Table,
@@ -42,7 +42,7 @@ impl<D: Directory, T: Tape> Prepared<D, T> {
     ghost use Rattle.book.specs.Running.{new_on};
 
     // All memory is had here. A tape that has lines is refused before memory is asked for.
-    pub fn new(
+    pub(crate) fn new(
         heap: Global,
         quote: Quote,
         directory: D,
@@ -67,7 +67,7 @@ impl<D: Directory, T: Tape> Prepared<D, T> {
     }
 
     // Directory and tape as they were, where no book is to be opened after all.
-    pub fn hand_back(self) -> (D, T)
+    pub(crate) fn hand_back(self) -> (D, T)
         ensures directory { result.0 ≡ self.directory }
         ensures tape { result.1 ≡ self.tape }
     {
@@ -75,7 +75,7 @@ impl<D: Directory, T: Tape> Prepared<D, T> {
     }
 
     // The directory is emptied. Everything is had, so that this cannot fail.
-    pub fn open(self) -> Book<D, T>
+    pub(crate) fn open(self) -> Book<D, T>
         ensures { result ≡ new_on (T.Tape.free self.tape) self.table.quote.bid self.table.quote.offer }
     {
         let Prepared {

@@ -9,10 +9,9 @@ use Rattle.terms.specs.declared.side.Side.{Side}
 use Rattle.terms.specs.declared.side.Side.TheVariants.{Buy, Sell}
 use Rattle.terms.specs.declared.time_in_force.TimeInForce.{TimeInForce}
 use Rattle.terms.specs.declared.time_in_force.TimeInForce.TheVariants.{ImmediateOrCancel, Rest}
-use Rattle.rules.specs.Calls.{swept_in, joined, rested, Call, done_at, entry, new_order, cancel, quote, follows_quote, tick, time_of}
+use Rattle.rules.specs.Calls.{swept_in, joined, rested, Call, done_at, call, entry, new_order, cancel, quote, follows_quote, tick, time_of}
 use Rattle.rules.specs.Clock.{end_period, protected_on, settle, at_time}
 use Rattle.rules.specs.Examples.{id}
-use Rattle.rules.specs.Laws.{LinesWithinOrders}
 use Rattle.rules.specs.Market.{Market, Order, side_of, lower, with_orders, resting, reach_in, those, with_end, Book, with_quote}
 use Rattle.rules.specs.Priority.{line_price, partner_for}
 use Rattle.rules.specs.Runs.{run, opened}
@@ -155,7 +154,9 @@ unfolding at_time
 at_time_tape u c b h =
     omega (arith, done_tape c (record { market = settle u b.market; clock = u; entries = b.entries }) (settle_orderly b.entries u b.market h), settle_tally u b.market)
 
-pub lines_within_orders : LinesWithinOrders
+pub lines_within_orders : (bid offer room free : ℕ) (cs : List Call) (c : Call)
+    → let b : Book = (run room cs (opened bid offer)).book in
+    length (call free c b).book.market.tape ≤ length b.market.tape + length b.market.orders
 lines_within_orders bid offer room free cs c =
     let b : Book = (run room cs (opened bid offer)).book in
     call_ways (λ r. length r.book.market.tape ≤ tally b.market) free c b (λ _ _. omega arith)

@@ -169,6 +169,10 @@ module _ (P : ℕ → ℕ → Market → Type 0) (l : Lasts P) where
   unfolding at_time
   at_time_lasts later u b e h = later b.clock b.entries u b.market e h
 
+  pub call_lasts : ((t n u : ℕ) (m : Market) → t ≤ u → P t n m → P u n (settle u m)) → (free : ℕ) (c : Call) (b : Book)
+      → Of b → Of (call free c b).book
+  call_lasts later = call_keeps Of (at_time_lasts later) done_lasts
+
   pub run_lasts : ((t n u : ℕ) (m : Market) → t ≤ u → P t n m → P u n (settle u m)) → (room : ℕ) (cs : List Call) (b : Book)
       → Of b → Of (run room cs b).book
   run_lasts later = run_keeps Of (at_time_lasts later) done_lasts

@@ -21,3 +21,4 @@ pub mod Refusals
 pub mod Numbers
 pub mod Ranking
 pub mod Table
+pub mod Grown

@@ -135,15 +135,6 @@ NeverCrossed =
     → let m : Market = (run room calls (opened bid offer)).book.market in
     Every (λ x. Every (λ y. side_of x ≡ Buy → side_of y ≡ Sell → reach_in m x < reach_in m y) m.orders) m.orders
 
--- Lines within orders
-
--- however many orders rest after a run, any one call that follows writes no more lines than that
-abbrev pub LinesWithinOrders : Type 0
-LinesWithinOrders =
-    (bid offer room free : ℕ) (calls : List Call) (c : Call)
-    → let b : Book = (run room calls (opened bid offer)).book in
-    length (call free c b).book.market.tape ≤ length b.market.tape + length b.market.orders
-
 -- The best partner
 
 -- the chosen order is a partner and no partner goes ahead of it; where none is chosen there is none

@@ -7,6 +7,7 @@ pub mod Answers
 pub mod Calls
 pub mod Questions
 pub mod Runs
+pub mod Growth
 pub mod Laws
 pub mod Examples
 pub mod PriorityRuns

@@ -1,7 +1,8 @@
 // Each carries a law on its contract; nothing calls them.
 ghost use Rattle.std.specs.Prelude.{nat_le, nat_lt, ◌≡◌};
 ghost use Rattle.rules.specs.Examples.{AsTold, QuestionsAsTold, told_with_the_rules};
-ghost use Rattle.rules.specs.Laws.{EntriesCounted, LinesWithinOrders, NeverCrossed, NumberedInTurn, NumbersAscend, OrdersWithinPlaces, ReasonsHold, SettlesAtOnce, SharesRemain, TapeExplainsDiscretion, TicksChangeOnlyTheClock};
+ghost use Rattle.rules.specs.Growth.{TapeOnlyGrows};
+ghost use Rattle.rules.specs.Laws.{EntriesCounted, NeverCrossed, NumberedInTurn, NumbersAscend, OrdersWithinPlaces, ReasonsHold, SettlesAtOnce, SharesRemain, TapeExplainsDiscretion, TicksChangeOnlyTheClock};
 ghost use Rattle.rules.specs.Limits.{fewest_left, last_moment, most_entries, most_resting, protection_period, round_lot};
 ghost use Rattle.rules.specs.PriorityRuns.{told_of_priority};
 ghost use Rattle.rules.specs.RefusalRuns.{told_of_refusals};
@@ -53,10 +54,11 @@ pub fn never_crossed(buy_reach: u32, sell_reach: u32) -> bool
     buy_reach < sell_reach
 }
 
-// Whether so many free lines are enough for a call that finds so many orders resting.
+// Whether so many free lines are enough for a call that finds so many orders resting. No call takes a line back, and none writes
+// more lines than orders rest.
 pub fn lines_within_orders(resting: usize, free: usize) -> bool
     ensures enough { result ≡ nat_le resting free }
-    ensures within { LinesWithinOrders }
+    ensures grows { TapeOnlyGrows }
 {
     resting <= free
 }

@@ -1,5 +1,5 @@
-use Rattle.rules.proofs.Count.{lines_within_orders}
+use Rattle.rules.proofs.Grown.{tape_only_grows}
 use Rattle.rules.proofs.laws.lines_within_orders.Goals as goal
 
-pub returns-clause-within : goal.returns-clause-within
-returns-clause-within c = lines_within_orders
+pub returns-clause-grows : goal.returns-clause-grows
+returns-clause-grows c = tape_only_grows

@@ -4,7 +4,7 @@ use Rattle.rules.specs.Answers.{told as told_answer}
 use Rattle.rules.specs.Calls.{tick}
 use Rattle.book.specs.Carried.{Carried, plain_numbers, tick_answer}
 use Rattle.book.proofs.Calling.{tick_carried}
-use Rattle.book.proofs.Runs.{told, left_so, kept}
+use Rattle.book.proofs.Runs.{told, left_so, kept, grows}
 use Rattle.book.proofs.book.Book.tick.Goals as goal
 use Rattle.book.proofs.book.Book.tick.Goals.{After-advance}
 use Rattle.book.proofs.book.Book.tick.Given.{Over}
@@ -27,3 +27,6 @@ in_numbers (Err why) = refl
 
 pub returns-clause-told : goal.returns-clause-told
 returns-clause-told g c = in_numbers c.advance.result ∙ ap told_answer (told _ _ _ _ _ _ _ c.self.view_is c.self.invariant (carried g c))
+
+pub returns-clause-grows : goal.returns-clause-grows
+returns-clause-grows g c = grows _ _ _ _ _ _ _ c.self.view_is c.self.invariant (carried g c)
