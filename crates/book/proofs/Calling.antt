@@ -1,6 +1,7 @@
 -- What every call has in common: the refusals before the clock moves, room for the lines that it writes, and the run that goes
 -- on by one call. Cite early for a refusal before the clock moves, begun_refused and begun for the start of a call, carried_on
 -- for its end.
+use Rattle.std.specs.Prelude.{if◌then◌else◌}
 use Rattle.std.proofs.Common.{◌≡◌, ℕ, ◌+◌, ◌-◌, ◌≤◌, Bool, true, false, leb, List, [], ◌∷◌, ◌++◌, length, Some, None, Ok, Err, vec_items, Result, sym, refl, ap, ◌∙◌, subst, arith}
 use Rattle.std.proofs.lemmas.Bool.{leb-true, and_parts}
 use Rattle.tape.specs.declared.tape.Tape.{Ghosts as TapeOf}
@@ -34,7 +35,7 @@ Judged free c b (Ok u) = Passed free c b
 Judged free c b (Err why) = names_lawfully c ≡ true → call free c b ≡ refuse why b
 
 module _ (free : ℕ) (c : Call) (b : Book) where
-  by_tests : (on_time : Bool) → timely c b ≡ on_time → (room : Bool) → leb (length b.market.orders) free ≡ room → Judged free c b (elim on_time as (λ _. Result (Unit {0}) Refusal) [ false ↦ Err Time | true ↦ elim room [ false ↦ Err TapeShort | true ↦ Ok tt ] ])
+  by_tests : (on_time : Bool) → timely c b ≡ on_time → (room : Bool) → leb (length b.market.orders) free ≡ room → Judged free c b (if on_time then (if room then Ok tt else Err TapeShort) else Err Time)
   by_tests false e room f = λ named. call_untimely free c b named e
   by_tests true e false f = λ named. call_short free c b named e f
   by_tests true e true f = record { time = e; room = f }

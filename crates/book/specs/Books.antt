@@ -11,25 +11,25 @@ use Rattle.book.specs.declared.engine.Engine.{Engine}
 use Rattle.book.specs.Tied.{Tied}
 
 abbrev pub book_of : {D T : Type 0} → TapeOf T → Engine D T → Book
-book_of t b = record { market = market_of t b.market; clock = b.clock; entries = b.entries }
+book_of tape_make engine = record { market = market_of tape_make engine.market; clock = engine.clock; entries = engine.entries }
 
 -- the directory has the pairs of the rows, and no others
 abbrev pub BookTied : {D T : Type 0} → DirectoryOf D → Engine D T → Type 0
-BookTied d b = Tied (d.number b.directory) (d.count b.directory) (vec_items b.market.table.rows)
+BookTied directory_make engine = Tied (directory_make.number engine.directory) (directory_make.count engine.directory) (vec_items engine.market.table.rows)
 
 -- the book is what some run of calls on a new book with an empty tape leaves
-pub record Reached {D T : Type 0} (t : TapeOf T) (b : Engine D T) : Type 0 where
+pub record Reached {D T : Type 0} (tape_make : TapeOf T) (engine : Engine D T) : Type 0 where
   pub bid : ℕ
   pub offer : ℕ
   pub calls : List Call
-  pub is : book_of t b ≡ (run (capacity_of t b.market) calls (opened bid offer)).book
+  pub is : book_of tape_make engine ≡ (run (capacity_of tape_make engine.market) calls (opened bid offer)).book
 
 -- between calls: the directory is tied to the rows, every row rests, and the book was reached by some run
-pub record Sound {D T : Type 0} (d : DirectoryOf D) (t : TapeOf T) (b : Engine D T) : Type 0 where
-  pub tied : BookTied d b
-  pub rests : AllRest (vec_items b.market.table.rows)
-  pub reached : Reached t b
+pub record Sound {D T : Type 0} (directory_make : DirectoryOf D) (tape_make : TapeOf T) (engine : Engine D T) : Type 0 where
+  pub tied : BookTied directory_make engine
+  pub rests : AllRest (vec_items engine.market.table.rows)
+  pub reached : Reached tape_make engine
 
 -- the book knows how many lines its tape has room for, written and free
 abbrev pub KnowsRoom : {D T : Type 0} → TapeOf T → Engine D T → Type 0
-KnowsRoom t b = b.room ≡ capacity_of t b.market
+KnowsRoom tape_make engine = engine.room ≡ capacity_of tape_make engine.market

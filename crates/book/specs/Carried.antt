@@ -1,5 +1,5 @@
 -- What a call promises: its answer and the book after it are the rule book's, and the book is sound again.
-use Rattle.std.specs.Prelude.{◌≡◌, ℕ, ◌≤◌, true, false, ◌&&◌, List, [], ◌∷◌, length, Ok, Err, vec_items, Result, nat_le}
+use Rattle.std.specs.Prelude.{◌≡◌, ℕ, ◌≤◌, true, false, ◌&&◌, List, [], ◌∷◌, length, Ok, Err, vec_items, Result, if◌then◌else◌, nat_le}
 use Rattle.tape.specs.declared.tape.Tape.{Ghosts as TapeOf}
 use Rattle.directory.specs.declared.directory.Directory.{Ghosts as DirectoryOf}
 use Rattle.rules.specs.declared.refusal.Refusal.{Refusal}
@@ -16,61 +16,60 @@ use Rattle.book.specs.Books.{book_of, BookTied, Sound}
 
 -- what the rule book makes of a call, with the lines that are free on the tape
 abbrev pub outcome_of : {D T : Type 0} → TapeOf T → Engine D T → Call → Outcome
-outcome_of t b c = call (t.free b.market.tape) c (book_of t b)
+outcome_of tape_make engine made = call (tape_make.free engine.market.tape) made (book_of tape_make engine)
 
-pub record Carried {D T : Type 0} (d : DirectoryOf D) (t : TapeOf T) (before after : Engine D T) (c : Call) (a : Answer) : Type 0 where
-  pub answer : a ≡ (outcome_of t before c).answer
-  pub book : book_of t after ≡ (outcome_of t before c).book
-  pub sound : Sound d t after
-  pub capacity : capacity_of t after.market ≡ capacity_of t before.market
+pub record Carried {D T : Type 0} (directory_make : DirectoryOf D) (tape_make : TapeOf T) (before after : Engine D T) (made : Call) (told : Answer) : Type 0 where
+  pub answer : told ≡ (outcome_of tape_make before made).answer
+  pub book : book_of tape_make after ≡ (outcome_of tape_make before made).book
+  pub sound : Sound directory_make tape_make after
+  pub capacity : capacity_of tape_make after.market ≡ capacity_of tape_make before.market
   pub room : after.room ≡ before.room
 
 -- the two refusals that every call may have, before the clock moves
 abbrev pub time_and_tape : ℕ → ℕ → Book → Result (Unit {0}) Refusal
-time_and_tape free time b =
-    elim (nat_le b.clock time && nat_le time last_moment) [
-      | false ↦ Err Time
-      | true ↦ elim (nat_le (length b.market.orders) free) [ false ↦ Err TapeShort | true ↦ Ok tt ]
-    ]
+time_and_tape free time book =
+    if nat_le book.clock time && nat_le time last_moment
+    then (if nat_le (length book.market.orders) free then Ok tt else Err TapeShort)
+    else Err Time
 
 -- a step of a call: the directory is still tied to the rows, every row rests, and the book has the places on its tape that it had
-pub record Tidied {D T : Type 0} (d : DirectoryOf D) (t : TapeOf T) (before after : Engine D T) : Type 0 where
-  pub tied : BookTied d before → BookTied d after
+pub record Tidied {D T : Type 0} (directory_make : DirectoryOf D) (tape_make : TapeOf T) (before after : Engine D T) : Type 0 where
+  pub tied : BookTied directory_make before → BookTied directory_make after
   pub rests : AllRest (vec_items after.market.table.rows)
-  pub capacity : capacity_of t after.market ≡ capacity_of t before.market
+  pub capacity : capacity_of tape_make after.market ≡ capacity_of tape_make before.market
   pub room : after.room ≡ before.room
 
 -- the clock has come to a call's time: what is left to do is what the rule book does from there, and its lines find room
-pub record Brought {D T : Type 0} (d : DirectoryOf D) (t : TapeOf T) (before after : Engine D T) (time : ℕ) : Type 0 where
+pub record Brought {D T : Type 0} (directory_make : DirectoryOf D) (tape_make : TapeOf T) (before after : Engine D T) (time : ℕ) : Type 0 where
   pub day : time ≤ last_moment
   pub clock : after.clock ≡ time
-  pub done : (c : Call) → time_of c ≡ time → names_lawfully c ≡ true → outcome_of t before c ≡ done_at c (book_of t after)
-  pub lines : (c : Call) → time_of c ≡ time → names_lawfully c ≡ true → HasRoom t after.market (done_at c (book_of t after)).book.market
-  pub tied : BookTied d after
+  pub done : (made : Call) → time_of made ≡ time → names_lawfully made ≡ true → outcome_of tape_make before made ≡ done_at made (book_of tape_make after)
+  pub lines : (made : Call) → time_of made ≡ time → names_lawfully made ≡ true → HasRoom tape_make after.market (done_at made (book_of tape_make after)).book.market
+  pub tied : BookTied directory_make after
   pub rests : AllRest (vec_items after.market.table.rows)
-  pub capacity : capacity_of t after.market ≡ capacity_of t before.market
+  pub capacity : capacity_of tape_make after.market ≡ capacity_of tape_make before.market
   pub room : after.room ≡ before.room
 
 -- the start of every call at a time: it is refused, or the clock comes to the time
 abbrev pub Begun : {D T : Type 0} → DirectoryOf D → TapeOf T → Engine D T → Engine D T → ℕ → Result (Unit {0}) Refusal → Type 0
-Begun d t before after time (Ok u) = Brought d t before after time
-Begun d t before after time (Err why) = (c : Call) → time_of c ≡ time → names_lawfully c ≡ true → Carried d t before after c (refused why)
+Begun directory_make tape_make before after time (Ok unit) = Brought directory_make tape_make before after time
+Begun directory_make tape_make before after time (Err why) = (made : Call) → time_of made ≡ time → names_lawfully made ≡ true → Carried directory_make tape_make before after made (refused why)
 
 abbrev pub entry_answer : Result (ℕ × ℕ × ℕ) Refusal → Answer
-entry_answer (Ok v) = entered v.0 v.1 v.2
+entry_answer (Ok entry) = entered entry.0 entry.1 entry.2
 entry_answer (Err why) = refused why
 
 -- the same, where a refusal hands the ticket back
 abbrev pub entry_told : Result (ℕ × ℕ × ℕ) Rejected → Answer
-entry_told (Ok v) = entered v.0 v.1 v.2
-entry_told (Err e) = refused e.why
+entry_told (Ok entry) = entered entry.0 entry.1 entry.2
+entry_told (Err rejected) = refused rejected.why
 
 abbrev pub tick_answer : Result (Unit {0}) Refusal → Answer
-tick_answer (Ok u) = ticked
+tick_answer (Ok unit) = ticked
 tick_answer (Err why) = refused why
 
 abbrev pub quote_answer : Result (Unit {0}) Refusal → Answer
-quote_answer (Ok u) = quoted
+quote_answer (Ok unit) = quoted
 quote_answer (Err why) = refused why
 
 abbrev pub cancel_answer : Result ℕ Refusal → Answer
@@ -87,8 +86,8 @@ refused_with why = record { number = refusal_number why; values = [] }
 
 -- entry number, shares traded, shares lapsed
 abbrev pub entry_numbers : Result (ℕ × ℕ × ℕ) Rejected → Told
-entry_numbers (Ok v) = done_with (v.0 ∷ (v.1 ∷ (v.2 ∷ [])))
-entry_numbers (Err e) = refused_with e.why
+entry_numbers (Ok entry) = done_with (entry.0 ∷ (entry.1 ∷ (entry.2 ∷ [])))
+entry_numbers (Err rejected) = refused_with rejected.why
 
 -- the shares that were left
 abbrev pub cancel_numbers : Result ℕ Refusal → Told
@@ -97,5 +96,5 @@ cancel_numbers (Err why) = refused_with why
 
 -- a quote's and a tick's
 abbrev pub plain_numbers : Result (Unit {0}) Refusal → Told
-plain_numbers (Ok u) = done_with []
+plain_numbers (Ok unit) = done_with []
 plain_numbers (Err why) = refused_with why

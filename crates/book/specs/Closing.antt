@@ -7,9 +7,9 @@ use Rattle.rules.specs.Calls.{named}
 -- no two orders have one identifier
 abbrev pub DistinctNames : List Order → Type 0
 DistinctNames [] = Unit {0}
-DistinctNames (o ∷ os) = (named o.identifier os ≡ None) × DistinctNames os
+DistinctNames (order ∷ orders) = (named order.identifier orders ≡ None) × DistinctNames orders
 
 -- a directory, told by its numbers and its count, has the pairs of identifier and entry number of these orders, and no others
 pub record HasPairsOf (orders : List Order) (number : List ℕ → Option ℕ) (count : ℕ) : Type 0 where
-  pub known : (id : List ℕ) → number id ≡ option_map (λ (o : Order). o.number) (named id orders)
+  pub known : (id : List ℕ) → number id ≡ option_map (λ (order : Order). order.number) (named id orders)
   pub counted : count ≡ length orders

@@ -22,34 +22,34 @@ use Rattle.book.specs.Carried.{Tidied}
 
 -- the entry number n, unless the name is taken, the book is full or the entries are spent
 abbrev pub numbered_unless : Bool → Bool → Bool → ℕ → Result ℕ Refusal
-numbered_unless true full spent n = Err NameTaken
-numbered_unless false true spent n = Err BookFull
-numbered_unless false false true n = Err EntriesSpent
-numbered_unless false false false n = Ok n
+numbered_unless true full spent number = Err NameTaken
+numbered_unless false true spent number = Err BookFull
+numbered_unless false false true number = Err EntriesSpent
+numbered_unless false false false number = Ok number
 
 -- the entry number that the order gets, or why it is refused, once the clock is at its time
 abbrev pub entry_test : List ℕ → OrderTerms → Book → Result ℕ Refusal
-entry_test id w b =
-    numbered_unless (is_some (named id b.market.orders)) (no_place w b.market) (nat_le most_entries b.entries) (b.entries + 1)
+entry_test id terms book =
+    numbered_unless (is_some (named id book.market.orders)) (no_place terms book.market) (nat_le most_entries book.entries) (book.entries + 1)
 
 -- the book is ready for the new row
-pub record Ready {D T : Type 0} (d : DirectoryOf D) (t : TapeOf T) (b : Engine D T) (time : ℕ) (r : Row) : Type 0 where
+pub record Ready {D T : Type 0} (directory_make : DirectoryOf D) (tape_make : TapeOf T) (engine : Engine D T) (time : ℕ) (row : Row) : Type 0 where
   pub day : time ≤ last_moment
-  pub tied : BookTied d b
-  pub rests : AllRest (vec_items b.market.table.rows)
-  pub joins : CanJoin (vec_items b.market.table.rows) r
-  pub lines : HasRoom t b.market (swept_in time (row_order r) (market_of t b.market))
+  pub tied : BookTied directory_make engine
+  pub rests : AllRest (vec_items engine.market.table.rows)
+  pub joins : CanJoin (vec_items engine.market.table.rows) row
+  pub lines : HasRoom tape_make engine.market (swept_in time (row_order row) (market_of tape_make engine.market))
 
 -- the directory takes the new row's pair
-pub record HasPlace {D T : Type 0} (d : DirectoryOf D) (b : Engine D T) (r : Row) : Type 0 where
-  pub lawful : lawful_identifier (row_name r) ≡ true
-  pub fresh : d.number b.directory (row_name r) ≡ None
-  pub free : d.count b.directory < 64
+pub record HasPlace {D T : Type 0} (directory_make : DirectoryOf D) (engine : Engine D T) (row : Row) : Type 0 where
+  pub lawful : lawful_identifier (row_name row) ≡ true
+  pub fresh : directory_make.number engine.directory (row_name row) ≡ None
+  pub free : directory_make.count engine.directory < 64
 
 -- the order is entered: entry number, shares traded, shares lapsed, and the market as the rule book leaves it
-pub record Entered {D T : Type 0} (d : DirectoryOf D) (t : TapeOf T) (before after : Engine D T) (o : Outcome) (v : ℕ × ℕ × ℕ) : Type 0 where
-  pub answer : entered v.0 v.1 v.2 ≡ o.answer
-  pub market : market_of t after.market ≡ o.book.market
-  pub tidied : Tidied d t before after
+pub record Entered {D T : Type 0} (directory_make : DirectoryOf D) (tape_make : TapeOf T) (before after : Engine D T) (outcome : Outcome) (entry : ℕ × ℕ × ℕ) : Type 0 where
+  pub answer : entered entry.0 entry.1 entry.2 ≡ outcome.answer
+  pub market : market_of tape_make after.market ≡ outcome.book.market
+  pub tidied : Tidied directory_make tape_make before after
   pub clock : after.clock ≡ before.clock
   pub entries : after.entries ≡ before.entries

@@ -8,10 +8,10 @@ use Rattle.market.specs.Meant.{why_as}
 use Rattle.book.specs.declared.explanation.Explanation.{Explanation}
 
 -- the order that the identifier names, its two prices, and a reason that holds of it
-pub record Explained (b : Book) (id : List ℕ) (e : Explanation) : Type 0 where
+pub record Explained (book : Book) (id : List ℕ) (explanation : Explanation) : Type 0 where
   pub order : Order
-  pub names : named id b.market.orders ≡ Some order
-  pub ranked : e.ranked ≡ ranked_in b.market order
-  pub reach : e.reach ≡ reach_in b.market order
-  pub told : why_as e.why ≡ why b.market order
-  pub holds : Reason b order (why_as e.why)
+  pub names : named id book.market.orders ≡ Some order
+  pub ranked : explanation.ranked ≡ ranked_in book.market order
+  pub reach : explanation.reach ≡ reach_in book.market order
+  pub told : why_as explanation.why ≡ why book.market order
+  pub holds : Reason book order (why_as explanation.why)

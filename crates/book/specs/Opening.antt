@@ -7,10 +7,10 @@ use Rattle.book.specs.declared.refusal.NotOpened.{NotOpened}
 
 -- a used tape is refused before memory is asked for
 abbrev pub Because : {T : Type 0} → TapeOf T → T → OpenRefusal → Type 0
-Because t tape TapeUsed = t.lines tape ≡ [] → ⊥
-Because t tape NoMemory = t.lines tape ≡ []
+Because tape_make tape TapeUsed = tape_make.lines tape ≡ [] → ⊥
+Because tape_make tape NoMemory = tape_make.lines tape ≡ []
 
-pub record HandedBack {D T : Type 0} (t : TapeOf T) (directory : D) (tape : T) (e : NotOpened D T) : Type 0 where
-  pub same_directory : e.directory ≡ directory
-  pub same_tape : e.tape ≡ tape
-  pub why : Because t tape e.why
+pub record HandedBack {D T : Type 0} (tape_make : TapeOf T) (directory : D) (tape : T) (refused : NotOpened D T) : Type 0 where
+  pub same_directory : refused.directory ≡ directory
+  pub same_tape : refused.tape ≡ tape
+  pub why : Because tape_make tape refused.why

@@ -6,7 +6,7 @@ use Rattle.terms.specs.declared.quote.Quote.{Quote}
 use Rattle.book.specs.declared.prepared.Prepared.{Prepared}
 
 -- a book can be opened at the quote, on this directory and this tape, which are as they were
-pub record PreparedOn {D T : Type 0} {d : DirectoryOf D} {t : TapeOf T} (q : Quote) (directory : D) (tape : T) (p : Prepared D T d t) : Type 0 where
-  pub same_directory : p.directory ≡ directory
-  pub same_tape : p.tape ≡ tape
-  pub at_quote : p.table.quote ≡ q
+pub record PreparedOn {D T : Type 0} {directory_make : DirectoryOf D} {tape_make : TapeOf T} (quote : Quote) (directory : D) (tape : T) (prepared : Prepared D T directory_make tape_make) : Type 0 where
+  pub same_directory : prepared.directory ≡ directory
+  pub same_tape : prepared.tape ≡ tape
+  pub at_quote : prepared.table.quote ≡ quote

@@ -8,8 +8,8 @@ use Rattle.book.specs.Told.{calls_of, answers_of}
 
 -- answers and book, as a run of the rule book has them
 abbrev pub run_of : List Answer → Running → Run
-run_of zs s = record { answers = answers_of zs; book = s.book }
+run_of answers state = record { answers = answers_of answers; book = state.book }
 
-pub record Followed (before later : Running) (calls : List Call) (zs : List Answer) : Type 0 where
-  pub ran : run_of zs later ≡ run before.room (calls_of calls) before.book
+pub record Followed (before later : Running) (calls : List Call) (answers : List Answer) : Type 0 where
+  pub ran : run_of answers later ≡ run before.room (calls_of calls) before.book
   pub room : later.room ≡ before.room

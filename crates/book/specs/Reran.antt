@@ -15,26 +15,26 @@ use Rattle.book.specs.Told.{calls_of}
 use Rattle.book.specs.Replayed.{run_of}
 
 -- a new book, at a quote and on an empty tape, has played the calls
-pub record PlayedThrough {D T : Type 0} (t : TapeOf T) (bid offer : ℕ) (tape : T) (calls : List Call) (p : Played D T) : Type 0 where
-  pub empty : t.lines tape ≡ []
-  pub ran : run_of (vec_items p.answers) p.book ≡ run (t.free tape) (calls_of calls) (opened bid offer)
-  pub room : p.book.room ≡ t.free tape
+pub record PlayedThrough {D T : Type 0} (tape_make : TapeOf T) (bid offer : ℕ) (tape : T) (calls : List Call) (played : Played D T) : Type 0 where
+  pub empty : tape_make.lines tape ≡ []
+  pub ran : run_of (vec_items played.answers) played.book ≡ run (tape_make.free tape) (calls_of calls) (opened bid offer)
+  pub room : played.book.room ≡ tape_make.free tape
 
 -- a used tape is told only where one of the two tapes is used; memory is asked for once the first is known to be empty
 abbrev pub BecauseEither : {T U : Type 0} → TapeOf T → T → TapeOf U → U → OpenRefusal → Type 0
-BecauseEither t tape u other TapeUsed = t.lines tape ≡ [] → u.lines other ≢ []
-BecauseEither t tape u other NoMemory = t.lines tape ≡ []
+BecauseEither tape_make tape other_make other TapeUsed = tape_make.lines tape ≡ [] → other_make.lines other ≢ []
+BecauseEither tape_make tape other_make other NoMemory = tape_make.lines tape ≡ []
 
 -- the book can be opened on these, and there is room for an answer to each call
-pub record StagedFor {D T : Type 0} {d : DirectoryOf D} {t : TapeOf T} (q : Quote) (directory : D) (tape : T) (calls : List Call) (s : Stage D T d t) : Type 0 where
-  pub book : PreparedOn q directory tape s.book
-  pub none : vec_items s.answers ≡ []
-  pub room : length calls ≤ vec_capacity s.answers
+pub record StagedFor {D T : Type 0} {directory_make : DirectoryOf D} {tape_make : TapeOf T} (quote : Quote) (directory : D) (tape : T) (calls : List Call) (stage : Stage D T directory_make tape_make) : Type 0 where
+  pub book : PreparedOn quote directory tape stage.book
+  pub none : vec_items stage.answers ≡ []
+  pub room : length calls ≤ vec_capacity stage.answers
 
 -- nothing was played, and both directories and tapes come back as they were
-pub record AllHandedBack {D T E U : Type 0} (t : TapeOf T) (u : TapeOf U) (directory : D) (tape : T) (other_directory : E) (other_tape : U) (e : NotRerun D T E U) : Type 0 where
-  pub same_directory : e.directory ≡ directory
-  pub same_tape : e.tape ≡ tape
-  pub same_other_directory : e.other_directory ≡ other_directory
-  pub same_other_tape : e.other_tape ≡ other_tape
-  pub why : BecauseEither t tape u other_tape e.why
+pub record AllHandedBack {D T E U : Type 0} (tape_make : TapeOf T) (other_make : TapeOf U) (directory : D) (tape : T) (other_directory : E) (other_tape : U) (refused : NotRerun D T E U) : Type 0 where
+  pub same_directory : refused.directory ≡ directory
+  pub same_tape : refused.tape ≡ tape
+  pub same_other_directory : refused.other_directory ≡ other_directory
+  pub same_other_tape : refused.other_tape ≡ other_tape
+  pub why : BecauseEither tape_make tape other_make other_tape refused.why

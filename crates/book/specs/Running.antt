@@ -14,30 +14,30 @@ pub record Running : Type 0 where
 
 -- what the rule book makes of a call, with the lines that are free on the tape
 abbrev pub outcome : Running → Call → Outcome
-outcome s c = call (s.room - length s.book.market.tape) c s.book
+outcome state made = call (state.room - length state.book.market.tape) made state.book
 
 abbrev pub answer_to : Running → Call → Answer
-answer_to s c = (outcome s c).answer
+answer_to state made = (outcome state made).answer
 
 -- the number and the values that are told of it
 abbrev pub told_of : Running → Call → Told
-told_of s c = told (answer_to s c)
+told_of state made = told (answer_to state made)
 
 -- the book after the call
 abbrev pub after : Running → Call → Running
-after s c = record { book = (outcome s c).book; room = s.room }
+after state made = record { book = (outcome state made).book; room = state.room }
 
 -- how an engine runs
 abbrev pub running : {D T : Type 0} → TapeOf T → Engine D T → Running
-running t b = record { book = book_of t b; room = b.room }
+running tape_make engine = record { book = book_of tape_make engine; room = engine.room }
 
 -- a new book, whose tape has room for so many lines
 abbrev pub new_on : ℕ → ℕ → ℕ → Running
 new_on room bid offer = record { book = opened bid offer; room = room }
 
 -- the book is what some run of calls on a new book leaves
-pub record Reached (s : Running) : Type 0 where
+pub record Reached (state : Running) : Type 0 where
   pub bid : ℕ
   pub offer : ℕ
   pub calls : List Call
-  pub is : s.book ≡ (run s.room calls (opened bid offer)).book
+  pub is : state.book ≡ (run state.room calls (opened bid offer)).book

@@ -12,11 +12,11 @@ use Rattle.book.specs.declared.call.Answer.TheVariants.{Entered, Cancelled, Quot
 abbrev pub call_of : Call → RuleCall
 call_of (Entry time id ticket) = entry time (vec_items id) (ticket_terms ticket)
 call_of (Cancel time id) = cancel time (vec_items id)
-call_of (Quote time q) = quote time q.bid q.offer
+call_of (Quote time prices) = quote time prices.bid prices.offer
 call_of (Tick time) = tick time
 
 abbrev pub calls_of : List Call → List RuleCall
-calls_of cs = map call_of cs
+calls_of calls = map call_of calls
 
 abbrev pub answer_of : Answer → RuleAnswer
 answer_of (Entered number traded lapsed) = entered number traded lapsed
@@ -27,8 +27,8 @@ answer_of (Refused why) = refused why
 
 -- the answer of a call that may be refused
 abbrev pub told_of : Result Answer Refusal → RuleAnswer
-told_of (Ok a) = answer_of a
+told_of (Ok answer) = answer_of answer
 told_of (Err why) = refused why
 
 abbrev pub answers_of : List Answer → List RuleAnswer
-answers_of zs = map answer_of zs
+answers_of answers = map answer_of answers
