@@ -5,7 +5,7 @@ use Rattle.rules.specs.Calls.{named}
 use Rattle.rules.specs.Questions.{why}
 use Rattle.rules.specs.Laws.{Reason}
 use Rattle.market.specs.Meant.{why_as}
-use Rattle.book.specs.declared.explanation.Explanation.{Explanation}
+use Rattle.book.specs.declared.book.Explanation.{Explanation}
 
 -- the order that the identifier names, its two prices, and a reason that holds of it
 pub record Explained (book : Book) (id : List ℕ) (explanation : Explanation) : Type 0 where

@@ -10,7 +10,7 @@ use Rattle.book.specs.Preparing.{PreparedOn}
 use Rattle.book.specs.declared.call.Call.{Call}
 use Rattle.book.specs.declared.played.Played.{Played}
 use Rattle.book.specs.declared.both_runs.NotRerun.{NotRerun}
-use Rattle.book.specs.declared.stage.Stage.{Stage}
+use Rattle.book.specs.declared.played.Stage.{Stage}
 use Rattle.book.specs.Told.{calls_of}
 use Rattle.book.specs.Replayed.{run_of}
 

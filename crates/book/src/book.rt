@@ -15,11 +15,10 @@ ghost use Rattle.rules.specs.Questions.{Answered, closing};
 ghost use Rattle.terms.specs.Made.{ticket_terms};
 
 use crate::engine::Engine;
-use crate::explanation::Explanation;
 use crate::prepared::Prepared;
 use crate::refusal::{NotOpened, Rejected};
 use directory::Directory;
-use market::{Figures, Market, Row, Standing, ask, explain, figures_of};
+use market::{Figures, Market, Row, Standing, Why, ask, explain, figures_of};
 use rules::Refusal;
 use std::alloc::Global;
 use std::marker::Model;
@@ -30,6 +29,15 @@ use terms::{Quote, Ticket};
 #[derive(Drop)]
 pub struct Book<D: Directory, T: Tape> {
     pub(crate) engine: Engine<D, T>,
+}
+
+// Why an order reaches as far as it does; both prices in half-cents: the one at which the order stands, and the one up to which it
+// trades.
+#[derive(Clone, Copy, PartialEq, Eq, Debug, Drop)]
+pub struct Explanation {
+    pub ranked: u32,
+    pub reach: u32,
+    pub why: Why,
 }
 
 impl<D: Directory, T: Tape> Model for Book<D, T> {

@@ -5,9 +5,8 @@ ghost use Rattle.book.specs.Reran.{AllHandedBack, PlayedThrough};
 ghost use Rattle.book.specs.Told.{calls_of};
 
 use crate::call::Call;
-use crate::played::Played;
+use crate::played::{Played, Stage};
 use crate::refusal::OpenRefusal;
-use crate::stage::Stage;
 use directory::Directory;
 use std::alloc::Global;
 use std::error::Error;

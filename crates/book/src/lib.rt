@@ -5,15 +5,12 @@ mod book;
 mod both_runs;
 mod call;
 mod engine;
-mod explanation;
 mod played;
 mod prepared;
 mod refusal;
-mod stage;
 
-pub use book::Book;
+pub use book::{Book, Explanation};
 pub use both_runs::{NotRerun, rerun};
 pub use call::{Answer, Call};
-pub use explanation::Explanation;
 pub use played::{Played, carry_out, play, replay};
 pub use refusal::{NotOpened, OpenRefusal, Rejected};

@@ -1,14 +1,14 @@
 ghost use Rattle.std.specs.Prelude.{MatchResult, [], length, vec_capacity, ◌≡◌, ◌≤◌};
 ghost use Rattle.book.specs.Opening.{HandedBack};
 ghost use Rattle.book.specs.Replayed.{Followed};
-ghost use Rattle.book.specs.Reran.{PlayedThrough};
+ghost use Rattle.book.specs.Reran.{PlayedThrough, StagedFor};
 ghost use Rattle.book.specs.Running.{after, answer_to};
 ghost use Rattle.book.specs.Told.{answer_of, call_of, told_of};
 
 use crate::book::Book;
 use crate::call::{Answer, Call};
-use crate::refusal::NotOpened;
-use crate::stage::Stage;
+use crate::prepared::Prepared;
+use crate::refusal::{NotOpened, OpenRefusal};
 use directory::Directory;
 use rules::Refusal;
 use std::alloc::{AllocError, Global};
@@ -20,6 +20,51 @@ use terms::Quote;
 pub struct Played<D: Directory, T: Tape> {
     pub answers: Vec<Answer>,
     pub book: Book<D, T>,
+}
+
+// A book about to be opened, with room for the answers to a list of calls: all memory that opening the book and playing the calls takes has been had.
+#[derive(Drop)]
+pub(crate) struct Stage<D: Directory, T: Tape> {
+    pub(crate) book: Prepared<D, T>,
+    pub(crate) answers: Vec<Answer>,
+}
+
+impl<D: Directory, T: Tape> Stage<D, T> {
+    // A tape that has lines is refused before memory is asked for.
+    pub(crate) fn new(
+        heap: Global,
+        quote: Quote,
+        directory: D,
+        tape: T,
+        calls: &[Call],
+    ) -> Result<Stage<D, T>, NotOpened<D, T>>
+        ensures { MatchResult result
+            (λ s. StagedFor quote directory tape calls.now s)
+            (λ e. HandedBack T.Tape directory tape e) }
+    {
+        let book = Prepared::new(heap, quote, directory, tape)?;
+        let Ok(answers) = Vec::with_capacity(heap, calls.len()) else {
+            let (directory, tape) = book.hand_back();
+            return Err(NotOpened {
+                directory,
+                tape,
+                why: OpenRefusal::NoMemory,
+            });
+        };
+        Ok(Stage { book, answers })
+    }
+
+    // Opens the book and plays the calls on it, which cannot fail.
+    pub(crate) fn play(self, calls: &[Call]) -> Played<D, T>
+        requires none { self.answers.items ≡ [] }
+        requires room { length calls.now ≤ vec_capacity self.answers }
+        ensures { PlayedThrough T.Tape self.book.table.quote.bid self.book.table.quote.offer self.book.tape calls.now result }
+    {
+        let Stage { book, mut answers } = self;
+        let mut book = book.open();
+        answer_each(&mut book, calls, &mut answers);
+        Played { answers, book }
+    }
 }
 
 // What the book answers to the call, or why it refuses it. An entry is made by a second ticket, so that the first stays where
