@@ -3,24 +3,27 @@
 use Rattle.std.proofs.Common.{◌≡◌, ℕ, ◌+◌, ◌-◌, ◌<◌, true, false, ltb, ◌⊎◌, List, [], ◌∷◌, ◌++◌, map, length, take, Some, None, Ok, Err, Option, Result, sym, refl, ap, ◌∙◌, inl, inr, arith, length-append, MatchResult}
 use Rattle.std.proofs.lemmas.List.{length-map, map_push, take-map}
 use lib.Seq.{take-append_seam}
-use Rattle.std.proofs.lemmas.Bool.{cases_Bool, lt-ltb}
+use Rattle.std.proofs.lemmas.Bool.{both_ways, cases_Bool, lt-ltb}
+use Rattle.std.proofs.lemmas.Bool.Decides.{not_from_Decides}
+use Rattle.std.proofs.lemmas.Slice.Eq.{bytes_eq-Decides}
 use Rattle.terms.specs.Identifiers.{lawful_identifier}
 use Rattle.directory.specs.declared.directory.PutRefusal.{PutRefusal}
 use Rattle.directory.specs.declared.directory.PutRefusal.TheVariants.{Unlawful, Held, Full}
 use Rattle.directory.specs.Pairs.{Added, RefusedPut, put_refusal}
-use Rattle.rules.specs.Calls.{same_bytes}
+use Rattle.directory.proofs.Distinct.{bytes_apart}
+use Rattle.std.specs.Str.{bytes_eq}
 use Rattle.rules.proofs.Cases.{if_true, none_some}
 use Rattle.market.specs.declared.row.Row.{Row}
 use Rattle.market.specs.Changes.{with_left, SameButShares, newest_number}
 use Rattle.market.proofs.Dropped.{newest_of_push}
 use Rattle.book.specs.Tied.{row_name, number_named, Apart, Tied}
-use Rattle.book.proofs.Ties.{same_decides, clash, clash_tests, unlike, first, later}
+use Rattle.book.proofs.Ties.{clash, first, later}
 
 -- a name that no row has
-passes : (id : List ℕ) (x : Row) (xs : List Row) → number_named id (x ∷ xs) ≡ None → (same_bytes (row_name x) id ≡ false) × (number_named id xs ≡ None)
-passes id x xs e = by (cases_Bool (same_bytes (row_name x) id))
+passes : (id : List ℕ) (x : Row) (xs : List Row) → number_named id (x ∷ xs) ≡ None → (bytes_eq id (row_name x) ≡ false) × (number_named id xs ≡ None)
+passes id x xs e = by (cases_Bool (bytes_eq id (row_name x)))
   where
-    by : (same_bytes (row_name x) id ≡ true) ⊎ (same_bytes (row_name x) id ≡ false) → (same_bytes (row_name x) id ≡ false) × (number_named id xs ≡ None)
+    by : (bytes_eq id (row_name x) ≡ true) ⊎ (bytes_eq id (row_name x) ≡ false) → (bytes_eq id (row_name x) ≡ false) × (number_named id xs ≡ None)
     by (inl h) = absurd (clash (number_named id (x ∷ xs)) (first id x xs h) e)
     by (inr h) = (h, sym (later id x xs h) ∙ e)
 
@@ -30,22 +33,22 @@ nobody id = refl
 
 module _ (r : Row) where
   named_last : (xs : List Row) → number_named (row_name r) xs ≡ None → number_named (row_name r) (xs ++ (r ∷ [])) ≡ Some r.number
-  named_last [] e = first (row_name r) r [] ((same_decides (row_name r) (row_name r)).1 refl)
+  named_last [] e = first (row_name r) r [] ((bytes_eq-Decides (row_name r) (row_name r)).1 refl)
   named_last (x ∷ xs) e =
       let past = passes (row_name r) x xs e in
       later (row_name r) x (xs ++ (r ∷ [])) past.0 ∙ named_last xs past.1
 
   others_named : (id : List ℕ) → (id ≡ row_name r → ⊥) → (xs : List Row) → number_named id (xs ++ (r ∷ [])) ≡ number_named id xs
   unfolding number_named
-  others_named id other [] = later id r [] (unlike (row_name r) id (λ e. other (sym e)))
+  others_named id other [] = later id r [] (bytes_apart id (row_name r) other)
   others_named id other (x ∷ xs) =
-      ap (λ z. elim (same_bytes (row_name x) id) as (λ _. Option ℕ) [ true ↦ Some x.number | false ↦ z ]) (others_named id other xs)
+      ap (λ z. elim (bytes_eq id (row_name x)) as (λ _. Option ℕ) [ true ↦ Some x.number | false ↦ z ]) (others_named id other xs)
 
   apart_more : (xs : List Row) → number_named (row_name r) xs ≡ None → Apart xs → Apart (xs ++ (r ∷ []))
   apart_more [] e a = (nobody (row_name r), tt)
   apart_more (x ∷ xs) e a =
       let past = passes (row_name r) x xs e in
-      let other : row_name x ≡ row_name r → ⊥ = λ q. clash_tests (same_bytes (row_name x) (row_name r)) ((same_decides (row_name x) (row_name r)).1 q) past.0 in
+      let other : row_name x ≡ row_name r → ⊥ = λ q. both_ways (bytes_eq (row_name r) (row_name x)) past.0 ((bytes_eq-Decides (row_name r) (row_name x)).1 (sym q)) in
       (others_named (row_name x) other xs ∙ a.0, apart_more xs past.1 a.1)
 
   -- the row's pair is added with it
@@ -53,17 +56,17 @@ module _ (r : Row) where
   row_joined rs id was is had has e added tied =
       let none : number_named (row_name r) rs ≡ None = sym (tied.known (row_name r)) ∙ ap was (sym e) ∙ added.fresh in
       record {
-        known = λ k. by none k (cases_Bool (same_bytes k (row_name r)));
+        known = λ k. by none k (cases_Bool (bytes_eq k (row_name r)));
         apart = apart_more rs none tied.apart;
         counted = omega (arith, added.more, tied.counted, length-append rs (r ∷ []));
       }
     where
-      by : number_named (row_name r) rs ≡ None → (k : List ℕ) → (same_bytes k (row_name r) ≡ true) ⊎ (same_bytes k (row_name r) ≡ false) → is k ≡ number_named k (rs ++ (r ∷ []))
+      by : number_named (row_name r) rs ≡ None → (k : List ℕ) → (bytes_eq k (row_name r) ≡ true) ⊎ (bytes_eq k (row_name r) ≡ false) → is k ≡ number_named k (rs ++ (r ∷ []))
       by none k (inl h) =
-          let same : k ≡ row_name r = (same_decides k (row_name r)).0 h in
+          let same : k ≡ row_name r = (bytes_eq-Decides k (row_name r)).0 h in
           ap is (same ∙ sym e) ∙ added.here ∙ sym (ap (λ z. number_named z (rs ++ (r ∷ []))) same ∙ named_last rs none)
       by none k (inr h) =
-          let other : k ≡ row_name r → ⊥ = λ q. clash_tests (same_bytes k (row_name r)) ((same_decides k (row_name r)).1 q) h in
+          let other : k ≡ row_name r → ⊥ = not_from_Decides (bytes_eq k (row_name r)) (bytes_eq-Decides k (row_name r)) h in
           added.others k (λ q. other (q ∙ e)) ∙ tied.known k ∙ sym (others_named k other rs)
 
 -- a lawful name that is not held finds its place while one is free

@@ -1,47 +1,36 @@
 -- A row that leaves with its pair: the directory stays tied to the rows. Cite row_left.
-use Rattle.std.proofs.Common.{◌≡◌, ℕ, Bool, true, false, ◌⊎◌, List, [], ◌∷◌, ◌++◌, Some, None, Decides, Option, sym, refl, ap, ◌∙◌, subst, inl, inr, arith, length-append, rules, MatchOption}
-use Rattle.std.proofs.lemmas.Slice.Eq.{compares_Decides}
+use Rattle.std.proofs.Common.{◌≡◌, ℕ, true, false, ◌⊎◌, List, [], ◌∷◌, ◌++◌, Some, None, Option, sym, refl, ap, ◌∙◌, subst, inl, inr, arith, length-append, MatchOption}
+use Rattle.std.proofs.lemmas.Slice.Eq.{bytes_eq-Decides}
 use Rattle.std.proofs.lemmas.Option.{MatchOption-at_some}
 use Rattle.std.proofs.lemmas.Bool.{cases_Bool}
+use Rattle.std.proofs.lemmas.Bool.Decides.{not_from_Decides}
 use Rattle.directory.specs.Pairs.{Removed, Kept}
-use Rattle.rules.specs.Calls.{same_bytes}
+use Rattle.directory.proofs.Distinct.{bytes_apart}
+use Rattle.std.specs.Str.{bytes_eq}
 use Rattle.rules.proofs.Cases.{if_true, if_false}
 use Rattle.market.specs.declared.row.Row.{Row}
 use Rattle.book.specs.Tied.{row_name, number_named, Apart, Tied}
 
-pub same_decides : (xs ys : List ℕ) → Decides (same_bytes xs ys) (xs ≡ ys)
-same_decides = compares_Decides same_bytes (search rules)
-
 pub clash : {n : ℕ} (o : Option ℕ) → o ≡ Some n → o ≡ None → ⊥
 clash o p q = let z : ◌≡◌ {A = ℕ} 0 1 = cc in omega arith
 
-pub clash_tests : (b : Bool) → b ≡ true → b ≡ false → ⊥
-clash_tests b p q = let z : ◌≡◌ {A = ℕ} 0 1 = cc in omega arith
-
-pub unlike : (xs ys : List ℕ) → (xs ≡ ys → ⊥) → same_bytes xs ys ≡ false
-unlike xs ys other = by (cases_Bool (same_bytes xs ys))
-  where
-    by : (same_bytes xs ys ≡ true) ⊎ (same_bytes xs ys ≡ false) → same_bytes xs ys ≡ false
-    by (inl h) = absurd (other ((same_decides xs ys).0 h))
-    by (inr h) = h
-
 module _ (id : List ℕ) where
-  pub first : (r : Row) (rs : List Row) → same_bytes (row_name r) id ≡ true → number_named id (r ∷ rs) ≡ Some r.number
+  pub first : (r : Row) (rs : List Row) → bytes_eq id (row_name r) ≡ true → number_named id (r ∷ rs) ≡ Some r.number
   unfolding number_named
-  first r rs h = if_true (same_bytes (row_name r) id) (Some r.number) (number_named id rs) h
+  first r rs h = if_true (bytes_eq id (row_name r)) (Some r.number) (number_named id rs) h
 
-  pub later : (r : Row) (rs : List Row) → same_bytes (row_name r) id ≡ false → number_named id (r ∷ rs) ≡ number_named id rs
+  pub later : (r : Row) (rs : List Row) → bytes_eq id (row_name r) ≡ false → number_named id (r ∷ rs) ≡ number_named id rs
   unfolding number_named
-  later r rs h = if_false (same_bytes (row_name r) id) (Some r.number) (number_named id rs) h
+  later r rs h = if_false (bytes_eq id (row_name r)) (Some r.number) (number_named id rs) h
 
 module _ (r : Row) (ls : List Row) where
   pub named_there : (es : List Row) → Apart (es ++ (r ∷ ls)) → number_named (row_name r) (es ++ (r ∷ ls)) ≡ Some r.number
-  named_there [] a = first (row_name r) r ls ((same_decides (row_name r) (row_name r)).1 refl)
-  named_there (x ∷ es) a = by (cases_Bool (same_bytes (row_name x) (row_name r))) (named_there es a.1)
+  named_there [] a = first (row_name r) r ls ((bytes_eq-Decides (row_name r) (row_name r)).1 refl)
+  named_there (x ∷ es) a = by (cases_Bool (bytes_eq (row_name r) (row_name x))) (named_there es a.1)
     where
-      by : (same_bytes (row_name x) (row_name r) ≡ true) ⊎ (same_bytes (row_name x) (row_name r) ≡ false) → number_named (row_name r) (es ++ (r ∷ ls)) ≡ Some r.number → number_named (row_name r) (x ∷ (es ++ (r ∷ ls))) ≡ Some r.number
+      by : (bytes_eq (row_name r) (row_name x) ≡ true) ⊎ (bytes_eq (row_name r) (row_name x) ≡ false) → number_named (row_name r) (es ++ (r ∷ ls)) ≡ Some r.number → number_named (row_name r) (x ∷ (es ++ (r ∷ ls))) ≡ Some r.number
       by (inl h) there =
-          let e = (same_decides (row_name x) (row_name r)).0 h in
+          let e = sym ((bytes_eq-Decides (row_name r) (row_name x)).0 h) in
           absurd (clash (number_named (row_name r) (es ++ (r ∷ ls))) there (subst (λ id. number_named id (es ++ (r ∷ ls)) ≡ None) e a.0))
       by (inr h) there = later (row_name r) x (es ++ (r ∷ ls)) h ∙ there
 
@@ -51,9 +40,9 @@ module _ (r : Row) (ls : List Row) where
 
   pub others_stay : (id : List ℕ) → (id ≡ row_name r → ⊥) → (es : List Row) → number_named id (es ++ ls) ≡ number_named id (es ++ (r ∷ ls))
   unfolding number_named
-  others_stay id other [] = sym (later id r ls (unlike (row_name r) id (λ e. other (sym e))))
+  others_stay id other [] = sym (later id r ls (bytes_apart id (row_name r) other))
   others_stay id other (x ∷ es) =
-      ap (λ z. elim (same_bytes (row_name x) id) as (λ _. Option ℕ) [ true ↦ Some x.number | false ↦ z ]) (others_stay id other es)
+      ap (λ z. elim (bytes_eq id (row_name x)) as (λ _. Option ℕ) [ true ↦ Some x.number | false ↦ z ]) (others_stay id other es)
 
   pub apart_still : (es : List Row) → Apart (es ++ (r ∷ ls)) → Apart (es ++ ls)
   apart_still [] a = a.1
@@ -61,7 +50,7 @@ module _ (r : Row) (ls : List Row) where
 
   pub gone : (es : List Row) → Apart (es ++ (r ∷ ls)) → number_named (row_name r) (es ++ ls) ≡ None
   gone [] a = a.0
-  gone (x ∷ es) a = later (row_name r) x (es ++ ls) (unlike (row_name x) (row_name r) (differs x es a)) ∙ gone es a.1
+  gone (x ∷ es) a = later (row_name r) x (es ++ ls) (bytes_apart (row_name r) (row_name x) (λ e. differs x es a (sym e))) ∙ gone es a.1
 
   -- the row's pair is removed with it
   pub row_left : (es : List Row) (id : List ℕ) (was is : List ℕ → Option ℕ) (had has : ℕ) (told : Option ℕ) → id ≡ row_name r → told ≡ was id → MatchOption told (Kept was had is has) (λ _. Removed id was had is has) → Tied was had (es ++ (r ∷ ls)) → Tied is has (es ++ ls)
@@ -69,15 +58,15 @@ module _ (r : Row) (ls : List Row) where
       let there : told ≡ Some r.number = t ∙ tied.known id ∙ ap (λ z. number_named z (es ++ (r ∷ ls))) e ∙ named_there es tied.apart in
       let removed = MatchOption-at_some (Kept was had is has) (λ _. Removed id was had is has) r.number there left in
       record {
-        known = λ k. by removed k (cases_Bool (same_bytes k (row_name r)));
+        known = λ k. by removed k (cases_Bool (bytes_eq k (row_name r)));
         apart = apart_still es tied.apart;
         counted = omega (arith, removed.fewer, tied.counted, length-append es (r ∷ ls), length-append es ls);
       }
     where
-      by : Removed id was had is has → (k : List ℕ) → (same_bytes k (row_name r) ≡ true) ⊎ (same_bytes k (row_name r) ≡ false) → is k ≡ number_named k (es ++ ls)
+      by : Removed id was had is has → (k : List ℕ) → (bytes_eq k (row_name r) ≡ true) ⊎ (bytes_eq k (row_name r) ≡ false) → is k ≡ number_named k (es ++ ls)
       by removed k (inl h) =
-          let same : k ≡ row_name r = (same_decides k (row_name r)).0 h in
+          let same : k ≡ row_name r = (bytes_eq-Decides k (row_name r)).0 h in
           ap is (same ∙ sym e) ∙ removed.gone ∙ sym (ap (λ z. number_named z (es ++ ls)) same ∙ gone es tied.apart)
       by removed k (inr h) =
-          let other : k ≡ row_name r → ⊥ = λ q. clash_tests (same_bytes k (row_name r)) ((same_decides k (row_name r)).1 q) h in
+          let other : k ≡ row_name r → ⊥ = not_from_Decides (bytes_eq k (row_name r)) (bytes_eq-Decides k (row_name r)) h in
           removed.others k (λ q. other (q ∙ e)) ∙ tied.known k ∙ sym (others_stay k other es)

@@ -1,6 +1,6 @@
 -- What ties a directory to the rows: it has the pairs of identifier and entry number of the rows, and no others.
 use Rattle.std.specs.Prelude.{◌≡◌, ℕ, true, false, List, [], ◌∷◌, length, Some, None, Option}
-use Rattle.rules.specs.Calls.{same_bytes}
+use Rattle.std.specs.Str.{bytes_eq}
 use Rattle.market.specs.declared.row.Row.{Row}
 use Rattle.market.specs.Rows.{identifier_bytes}
 
@@ -10,7 +10,7 @@ row_name r = identifier_bytes r.identifier
 -- the entry number of the row that an identifier names
 unfoldable pub number_named : List ℕ → List Row → Option ℕ
 number_named id [] = None
-number_named id (r ∷ rs) = elim (same_bytes (row_name r) id) [ true ↦ Some r.number | false ↦ number_named id rs ]
+number_named id (r ∷ rs) = elim (bytes_eq id (row_name r)) [ true ↦ Some r.number | false ↦ number_named id rs ]
 
 -- no two rows have one identifier
 abbrev pub Apart : List Row → Type 0

@@ -2,19 +2,20 @@
 -- that the pair joins or leaves between `xs` and `ys`. Cite `pair_here`, `pair_others`, `pair_found`.
 use Rattle.std.proofs.Common.{◌≡◌, ℕ, true, false, cond, ltb, List, ◌∷◌, ◌++◌, is_some, Some, None, Option, sym, refl, ap, ◌∙◌}
 use Rattle.std.proofs.lemmas.Bool.{both_ways}
+use Rattle.std.proofs.lemmas.Slice.Eq.{bytes_eq-Decides}
 use Rattle.terms.specs.Identifiers.{lawful_identifier}
 use Rattle.directory.specs.declared.entry.Entry.{Entry}
 use Rattle.directory.specs.Entries.{entry_id, number_in, distinct}
 use Rattle.directory.specs.declared.directory.PutRefusal.TheVariants.{Unlawful, Held, Full}
 use Rattle.directory.specs.Pairs.{put_refusal}
-use Rattle.directory.proofs.Distinct.{number_between, distinct_without, same_bytes, bytes_apart}
+use Rattle.directory.proofs.Distinct.{number_between, distinct_without, bytes_apart}
 
 module _ (xs ys : List Entry) (e : Entry) where
   -- the pair is there, and the others have the numbers that they have without it
   pub pair_here : number_in (xs ++ ys) (entry_id e) ≡ None → number_in (xs ++ e ∷ ys) (entry_id e) ≡ Some e.number
   pair_here none =
       number_between xs ys e (entry_id e) none
-      ∙ ap (λ b. cond b (Some e.number) (number_in (xs ++ ys) (entry_id e))) (same_bytes (entry_id e) (entry_id e) refl)
+      ∙ ap (λ b. cond b (Some e.number) (number_in (xs ++ ys) (entry_id e))) ((bytes_eq-Decides (entry_id e) (entry_id e)).1 refl)
 
   pub pair_others : number_in (xs ++ ys) (entry_id e) ≡ None → (k : List ℕ) → (k ≡ entry_id e → ⊥) → number_in (xs ++ e ∷ ys) k ≡ number_in (xs ++ ys) k
   pair_others none k ne =

@@ -3,26 +3,17 @@
 -- Cite `number_between` for the numbers, `distinct_between` and `distinct_without` for the list.
 use Rattle.std.proofs.Common.{◌≡◌, ℕ, Bool, true, false, cond, not, ◌&&◌, List, [], ◌∷◌, ◌++◌, is_some, Some, None, Option, sym, refl, ap, ◌∙◌, arith}
 use Rattle.std.specs.Str.{bytes_eq}
-use Rattle.std.proofs.lemmas.Bool.{and_parts, both_ways}
+use Rattle.std.proofs.lemmas.Bool.{and_parts, both_ways, false_from_ne_true}
+use Rattle.std.proofs.lemmas.Bool.Decides.{not_from_Decides}
 use Rattle.std.proofs.lemmas.Slice.Eq.{bytes_eq-Decides}
 use Rattle.directory.specs.declared.entry.Entry.{Entry}
 use Rattle.directory.specs.Entries.{entry_id, number_in, distinct}
 
-pub bytes_same : (xs ys : List ℕ) → bytes_eq xs ys ≡ true → xs ≡ ys
-bytes_same xs ys h = (bytes_eq-Decides xs ys).0 h
-
-pub same_bytes : (xs ys : List ℕ) → xs ≡ ys → bytes_eq xs ys ≡ true
-same_bytes xs ys h = (bytes_eq-Decides xs ys).1 h
-
-apart_by : (b : Bool) (xs ys : List ℕ) → bytes_eq xs ys ≡ b → (xs ≡ ys → ⊥) → b ≡ false
-apart_by true xs ys e ne = absurd (ne (bytes_same xs ys e))
-apart_by false xs ys e ne = refl
-
 pub bytes_apart : (xs ys : List ℕ) → (xs ≡ ys → ⊥) → bytes_eq xs ys ≡ false
-bytes_apart xs ys ne = apart_by (bytes_eq xs ys) xs ys refl ne
+bytes_apart xs ys ne = false_from_ne_true (bytes_eq xs ys) (λ h. ne ((bytes_eq-Decides xs ys).0 h))
 
 flipped : (xs ys : List ℕ) → bytes_eq xs ys ≡ false → bytes_eq ys xs ≡ false
-flipped xs ys h = bytes_apart ys xs (λ e. both_ways (bytes_eq xs ys) h (same_bytes xs ys (sym e)))
+flipped xs ys h = bytes_apart ys xs (λ e. not_from_Decides (bytes_eq xs ys) (bytes_eq-Decides xs ys) h (sym e))
 
 none_of : (o : Option ℕ) → not (is_some o) ≡ true → o ≡ None
 none_of None h = refl
@@ -54,7 +45,7 @@ number_between (x ∷ xs) ys e k none =
     let c = cond_none (bytes_eq (entry_id e) (entry_id x)) x.number (number_in (xs ++ ys) (entry_id e)) none in
     ap (λ o. cond (bytes_eq k (entry_id x)) (Some x.number) o) (number_between xs ys e k c.1)
     ∙ swapped (bytes_eq k (entry_id x)) (bytes_eq k (entry_id e)) (Some x.number) (Some e.number) (number_in (xs ++ ys) k)
-    (λ a b. both_ways _ c.0 (same_bytes (entry_id e) (entry_id x) (sym (bytes_same k (entry_id e) b) ∙ bytes_same k (entry_id x) a)))
+    (λ a b. not_from_Decides _ (bytes_eq-Decides (entry_id e) (entry_id x)) c.0 (sym ((bytes_eq-Decides k (entry_id e)).0 b) ∙ (bytes_eq-Decides k (entry_id x)).0 a))
 
 pub distinct_between : (xs ys : List Entry) (e : Entry) → number_in (xs ++ ys) (entry_id e) ≡ None → distinct (xs ++ ys) ≡ true → distinct (xs ++ e ∷ ys) ≡ true
 distinct_between [] ys e none d = joined e ys none d

@@ -1,4 +1,4 @@
-mod Distinct
+pub mod Distinct
 mod Changes
 mod Standing
 mod Ring

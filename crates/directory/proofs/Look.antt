@@ -4,11 +4,12 @@
 use Rattle.std.proofs.Common.{◌≡◌, ℕ, ◌+◌, ◌%◌, ◌<◌, ◌≤◌, true, false, List, length, get_or, is_some, Some, None, sym, refl, ap, ◌∙◌, subst, ⊎_elim, arith}
 use Rattle.std.specs.Str.{bytes_eq}
 use Rattle.std.proofs.lemmas.Bool.{both_ways, cases_lt, cases_order}
+use Rattle.std.proofs.lemmas.Bool.Decides.{not_from_Decides}
+use Rattle.std.proofs.lemmas.Slice.Eq.{bytes_eq-Decides}
 use Rattle.directory.specs.declared.entry.Entry.{Entry}
 use Rattle.directory.specs.Entries.{entry_id}
 use Rattle.directory.specs.Table.{Places, entries_in, taken, home_at, home_place, steps, Chained, FoundAt, FreeAt}
 use Rattle.directory.proofs.Ring.{steps_below, steps_to, steps_one}
-use Rattle.directory.proofs.Distinct.{bytes_same, same_bytes}
 use Rattle.directory.proofs.Slots.{home_is, place_below, none_held, all_taken}
 
 pub record Looking (ps : Places) (id : List ℕ) (step : ℕ) : Type 0 where
@@ -39,13 +40,13 @@ module _ (ps : Places) (id : List ℕ) (step place : ℕ) (w : Looking ps id ste
             (λ less. w.by_others q f lq less has own)
             (λ more.
             let same : f ≡ e = some_is f e (sym has ∙ ap (λ n. get_or ps n None) (this_place q lq more lt) ∙ here) in
-            both_ways (bytes_eq id (entry_id e)) other (same_bytes id (entry_id e) (sym own ∙ ap entry_id same)))
+            not_from_Decides (bytes_eq id (entry_id e)) (bytes_eq-Decides id (entry_id e)) other (sym own ∙ ap entry_id same))
             (cases_lt (steps (home_place id) q) step);
       }
 
   pub look_finds : (e : Entry) → get_or ps place None ≡ Some e → bytes_eq id (entry_id e) ≡ true → FoundAt ps id place e.number
   look_finds e here same =
-      record { within = place_within; pair = e; here = here; own = sym (bytes_same id (entry_id e) same); told = refl }
+      record { within = place_within; pair = e; here = here; own = sym ((bytes_eq-Decides id (entry_id e)).0 same); told = refl }
 
   pub look_ends : length ps ≡ 128 → Chained ps → get_or ps place None ≡ None → FreeAt ps id place
   look_ends whole chained none =

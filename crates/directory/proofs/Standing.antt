@@ -4,10 +4,11 @@ use Rattle.std.proofs.Common.{◌≡◌, ℕ, Bool, not, suc, ◌+◌, ◌<◌, 
 use Rattle.std.specs.List.{position, position_or_len}
 use Rattle.std.proofs.lemmas.List.Quantifiers.{position-Some}
 use Rattle.std.proofs.lemmas.Bool.{ltb-false}
+use Rattle.std.proofs.lemmas.Slice.Eq.{bytes_eq-Decides}
 use Rattle.std.specs.Str.{bytes_eq}
 use Rattle.directory.specs.declared.entry.Entry.{Entry}
 use Rattle.directory.specs.Entries.{entry_id, number_in, distinct, Stands}
-use Rattle.directory.proofs.Distinct.{bytes_same, cond_none}
+use Rattle.directory.proofs.Distinct.{cond_none}
 use Rattle.directory.proofs.Changes.{pair_found}
 
 -- the first row that is the identifier's
@@ -33,7 +34,7 @@ row_within (e ∷ es) k i h = (position-Some (own k) (e ∷ es) i e h).0
 
 pub row_stands : (es : List Entry) (k : List ℕ) (i : ℕ) → position (own k) es ≡ Some i → Stands es k i
 row_stands es k i h =
-    record { within = row_within es k i h; same = λ d. sym (bytes_same k (entry_id (get_or es i d)) (position-Some (own k) es i d h).1) }
+    record { within = row_within es k i h; same = λ d. sym ((bytes_eq-Decides k (entry_id (get_or es i d))).0 (position-Some (own k) es i d h).1) }
 
 pub rows_split : (es : List Entry) (i : ℕ) (d : Entry) → i < length es → es ≡ take i es ++ get_or es i d ∷ drop (suc i) es
 rows_split es i d lt = sym (take-append-drop i es) ∙ ap (λ xs. take i es ++ xs) (drop-cons es i d lt)

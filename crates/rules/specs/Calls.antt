@@ -1,5 +1,6 @@
 -- The four calls. Each brings the clock to its time before it changes anything else.
-use Rattle.std.specs.Prelude.{ℕ, ◌+◌, ◌-◌, Bool, true, false, not, ◌&&◌, List, [], ◌∷◌, ◌++◌, length, Some, None, Option, ◌==◌, nat_le}
+use Rattle.std.specs.Prelude.{ℕ, ◌+◌, ◌-◌, Bool, true, false, not, ◌&&◌, List, [], ◌∷◌, ◌++◌, length, Some, None, Option, nat_le}
+use Rattle.std.specs.Str.{bytes_eq}
 use Rattle.terms.specs.declared.kind.Kind.{Kind}
 use Rattle.terms.specs.declared.kind.Kind.TheVariants.{DisplayedLimit, HiddenLimit, DisplayedMdo, HiddenMdo, MidpointPeg}
 use Rattle.terms.specs.declared.time_in_force.TimeInForce.{TimeInForce}
@@ -29,16 +30,10 @@ pub record Outcome : Type 0 where
 abbrev pub refuse : Refusal → Book → Outcome
 refuse why b = record { answer = refused why; book = b }
 
-abbrev pub same_bytes : List ℕ → List ℕ → Bool
-same_bytes [] [] = true
-same_bytes [] (y ∷ ys) = false
-same_bytes (x ∷ xs) [] = false
-same_bytes (x ∷ xs) (y ∷ ys) = x == y && same_bytes xs ys
-
 -- the resting order that an identifier names
 unfoldable pub named : List ℕ → List Order → Option Order
 named id [] = None
-named id (o ∷ os) = elim (same_bytes o.identifier id) [ true ↦ Some o | false ↦ named id os ]
+named id (o ∷ os) = elim (bytes_eq id o.identifier) [ true ↦ Some o | false ↦ named id os ]
 
 -- Entry
 
