@@ -130,14 +130,12 @@ impl<D: Directory, T: Tape> Book<D, T> {
     {
         let engine = &self.engine;
         let table = &engine.market.table;
-        let tape = &engine.market.tape;
         let number = engine.directory.find(id)?;
         let row = table.row(number)?;
-        let written = self.lines();
         Some(Explanation {
             ranked: table.ranked(&row),
             reach: table.reach(&row),
-            why: explain(table, tape, written, &row),
+            why: explain(&engine.market, &row),
         })
     }
 
@@ -157,8 +155,7 @@ impl<D: Directory, T: Tape> Book<D, T> {
     pub fn lines(&self) -> usize
         ensures { result ≡ length self.now.book.market.tape }
     {
-        let free = self.engine.market.tape.free_lines();
-        self.engine.room.saturating_sub(free)
+        self.engine.market.tape.len()
     }
 
     // The line at a place of the tape, the oldest at 1.

@@ -1,12 +1,12 @@
 ghost use Rattle.std.specs.Option.{unwrap_or};
-ghost use Rattle.std.specs.Prelude.{length, ◌≡◌};
+ghost use Rattle.std.specs.Prelude.{◌≡◌};
+ghost use Rattle.market.specs.Markets.{market_of};
 ghost use Rattle.market.specs.Meant.{protection_of, why_as};
 ghost use Rattle.market.specs.Rows.{row_order};
-ghost use Rattle.market.specs.Seen.{market_with};
 ghost use Rattle.rules.specs.Questions.{latest_mark as latest_mark_of, why as why_of};
 
+use crate::market::Market;
 use crate::row::Row;
-use crate::table::Table;
 use crate::trade::mark_of;
 use tape::Tape;
 use terms::Side;
@@ -24,41 +24,37 @@ pub enum Why {
 
 // The place of the latest line with the side's mark; the rule book tells 0 where none has it. The search goes back from the
 // newest line, since a period that runs began with one of the last.
-fn latest_mark<T: Tape>(tape: &T, written: usize, side: Side) -> Option<usize>
-    ensures { written ≡ length (T.Tape.lines tape.now)
-        → unwrap_or result 0 ≡ latest_mark_of side (T.Tape.lines tape.now) }
+fn latest_mark<T: Tape>(tape: &T, side: Side) -> Option<usize>
+    ensures { unwrap_or result 0 ≡ latest_mark_of side (T.Tape.lines tape.now) }
 {
-    (1..=written).rev().find(|place| {
+    (1..=tape.len()).rev().find(|place| {
         tape.read(*place)
             .is_some_and(|line| line.mark == mark_of(side))
     })
 }
 
 // What is told of an order with QDP that ranks neither at its limit nor at the midpoint.
-fn protection<T: Tape>(table: &Table, tape: &T, written: usize, row: &Row) -> Why
-    ensures { written ≡ length (T.Tape.lines tape.now)
-        → why_as result ≡ protection_of (row_order row.now) (market_with (T.Tape.lines tape.now) table.now) }
+fn protection<T: Tape>(market: &Market<T>, row: &Row) -> Why
+    ensures { why_as result ≡ protection_of (row_order row.now) (market_of T.Tape market.now) }
 {
-    match table.end(row.terms.side) {
+    match market.table.end(row.terms.side) {
         Some(until) => Why::Protected {
-            line: latest_mark(tape, written, row.terms.side).unwrap_or(0),
+            line: latest_mark(&market.tape, row.terms.side).unwrap_or(0),
             until,
         },
         None => Why::Discretion,
     }
 }
 
-// Why the order reaches as far as it does. `written` is how many lines the tape holds. That it is so stands as a premise: a
-// type that held the proof would ask more of whoever calls.
-pub fn explain<T: Tape>(table: &Table, tape: &T, written: usize, row: &Row) -> Why
-    ensures { written ≡ length (T.Tape.lines tape.now)
-        → why_as result ≡ why_of (market_with (T.Tape.lines tape.now) table.now) (row_order row.now) }
+// Why the order reaches as far as it does.
+pub fn explain<T: Tape>(market: &Market<T>, row: &Row) -> Why
+    ensures { why_as result ≡ why_of (market_of T.Tape market.now) (row_order row.now) }
 {
     if !row.terms.kind.is_mdo() {
         return Why::NoMdo;
     }
-    let ranked = table.ranked(row);
-    let quote = table.quote();
+    let ranked = market.table.ranked(row);
+    let quote = market.table.quote();
     if ranked == 2 * row.terms.limit {
         return Why::AtLimit;
     }
@@ -68,5 +64,5 @@ pub fn explain<T: Tape>(table: &Table, tape: &T, written: usize, row: &Row) -> W
     if !row.terms.qdp {
         return Why::Discretion;
     }
-    protection(table, tape, written, row)
+    protection(market, row)
 }

@@ -40,8 +40,9 @@ impl Table {
 
     // Where the line depletes, it is marked, and the partner's side is protected from its time on.
     fn protect_if(&mut self, depletes: bool, time: u64, side: Side) -> Mark
+        requires { time ≤ last_moment }
         ensures mark { result ≡ mark_if depletes side }
-        ensures market { time ≤ last_moment → Becomes self.old self.new (protected_if depletes time side) }
+        ensures market { Becomes self.old self.new (protected_if depletes time side) }
         ensures rows { SameButShares self.old.rows.items self.new.rows.items }
     {
         if !depletes {
@@ -53,7 +54,8 @@ impl Table {
 
     // One line at the time, for a taker at the price; the line is handed back for the tape.
     pub(crate) fn trade(&mut self, time: u64, price: u32, taker: &Row, partner: &Row) -> Line
-        ensures market { time ≤ last_moment → (tape : List TradeLine) → market_with (tape ++ (result ∷ [])) self.new ≡ trade_of time price (row_order taker.now) (row_order partner.now) (market_with tape self.old) }
+        requires { time ≤ last_moment }
+        ensures market { (tape : List TradeLine) → market_with (tape ++ (result ∷ [])) self.new ≡ trade_of time price (row_order taker.now) (row_order partner.now) (market_with tape self.old) }
         ensures rows { SameButShares self.old.rows.items self.new.rows.items }
     {
         let shares = partner.left.min(taker.left);

@@ -63,6 +63,10 @@ impl<'a> Tape for ByteTape<'a> {
         self.bytes.len() / LINE_BYTES - self.used
     }
 
+    fn len(&self) -> usize {
+        self.used
+    }
+
     fn write(&mut self, line: Line) -> Result<(), Full>
         ensures line { MatchResult result
             (λ _. (byte_lines self.new ≡ byte_lines self.old ++ line ∷ []) × (byte_free self.new + 1 ≡ byte_free self.old))

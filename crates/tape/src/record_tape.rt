@@ -41,6 +41,10 @@ impl<'a> Tape for RecordTape<'a> {
         self.roll.free()
     }
 
+    fn len(&self) -> usize {
+        self.roll.len()
+    }
+
     fn write(&mut self, line: Line) -> Result<(), Full> {
         self.roll.push(line).map_err(|_| Full)
     }

@@ -1,5 +1,5 @@
 ghost use Rattle.std.specs.Fmt.{padded};
-ghost use Rattle.std.specs.Prelude.{List, MatchResult, Some, [], ℕ, ◌++◌, ◌+◌, ◌∷◌, ◌≡◌};
+ghost use Rattle.std.specs.Prelude.{List, MatchResult, Some, [], length, ℕ, ◌++◌, ◌+◌, ◌∷◌, ◌≡◌};
 ghost use Rattle.roll.specs.Rolls.{at_place};
 ghost use Rattle.tape.specs.Words.{full_words};
 ghost use Rattle.tape.specs.declared.line.Line.{Line as TradeLine};
@@ -33,6 +33,10 @@ pub trait Tape {
     // How many more lines can be written.
     fn free_lines(&self) -> usize
         ensures { result ≡ free self.now };
+
+    // How many lines stand on it.
+    fn len(&self) -> usize
+        ensures { result ≡ length (lines self.now) };
 
     // Adds a line at the end; refused exactly where no line is free, and then nothing changes.
     fn write(&mut self, line: Line) -> Result<(), Full>

@@ -1,4 +1,4 @@
-use Rattle.std.proofs.Common.{◌≡◌, length, Some, vec_items, sym, ap, ◌∙◌, subst}
+use Rattle.std.proofs.Common.{◌≡◌, Some, vec_items, sym, ap, ◌∙◌, subst}
 use Rattle.rules.specs.Market.{Order, resting, ranked_in}
 use Rattle.rules.specs.Laws.{Reason}
 use Rattle.rules.specs.Questions.{Why}
@@ -7,7 +7,6 @@ use Rattle.rules.proofs.Rows.{resting_in}
 use Rattle.market.specs.Rows.{row_order, orders_in}
 use Rattle.market.proofs.Still.{reach_still}
 use Rattle.book.specs.Books.{book_of}
-use Rattle.book.specs.Running.{Running}
 use Rattle.book.proofs.Named.{found_none, found_some}
 use Rattle.book.proofs.Explains.{reasoned}
 use Rattle.book.proofs.book.Book.why.Goals as goal
@@ -39,7 +38,7 @@ returns g c =
     let found = found_some id (vec_items table.rows) k c.self.invariant.0.rests table.ascending (sym (c.self.invariant.0.tied.known id) ∙ sym c.in_ok-number.ensures) in
     let rests : resting k orders ≡ Some order = sym c.in_ok-row.ensures in
     let same : found.order ≡ order = some_same found.order order (sym found.rests ∙ rests) in
-    let told = c.explain.ensures (c.lines-written.ensures ∙ ap (λ (s : Running). length s.book.market.tape) (sym c.self.view_is)) in
+    let told = c.explain.ensures in
     rw (← c.self.view_is) (record {
       order = order;
       names = found.names ∙ ap (λ (o : Order). Some o) same;

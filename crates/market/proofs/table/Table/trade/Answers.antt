@@ -8,7 +8,7 @@ use Rattle.market.proofs.Traded.{trade_is}
 use Rattle.market.proofs.table.Table.trade.Goals as goal
 
 pub returns-clause-market : goal.returns-clause-market
-returns-clause-market c h tape =
+returns-clause-market c tape =
     let line : Line =
     record {
       time = c.args.time;
@@ -20,7 +20,7 @@ returns-clause-market c h tape =
     }
     in
     let longer : List Line = tape ++ (line ∷ []) in
-    c.protect_if-mark.ensures.market h longer
+    c.protect_if-mark.ensures.market longer
     ∙ ap (protected_if c.lower_partner-depletes.result c.args.time c.args.partner.now.terms.side)
     (c.lower.ensures.market longer
     ∙ ap (λ (z : Market). with_orders (lower c.args.taker.now.number c.min-shares.result z.orders) z) (c.lower_partner-depletes.ensures.market longer))
