@@ -16,6 +16,7 @@ pub mod Why
 pub mod Calm
 pub mod Apart
 pub mod Uncrossed
+pub mod Finished
 pub mod Count
 pub mod Refusals
 pub mod Numbers

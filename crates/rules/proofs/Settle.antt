@@ -1,6 +1,6 @@
 -- Settling to a time and then to a later one is settling to the later one, and nothing is due then. By weight: rows and
 -- running periods together fall with each end of a period, so the turns given are enough and more change nothing.
--- Cite: due_is, due_none, settle_then, settled, settle_still, each_fewer.
+-- Cite: due_is, due_none, none_due, settle_then, settled, settle_still, each_fewer.
 use Rattle.std.proofs.Common.{◌≡◌, ℕ, zero, suc, ◌+◌, ◌<◌, ◌≤◌, leb, ◌⊎◌, List, [], ◌∷◌, length, Some, None, Option, sym, refl, ap, ◌∙◌, subst, inl, inr, arith}
 use Rattle.std.proofs.lemmas.Bool.{and_parts, leb-true, leb-false, le-leb}
 use Rattle.std.specs.List.{AllByRecursion as Every}
@@ -270,11 +270,15 @@ settled t m s e q = due_none t (end_periods (length m.orders + 2) t m) (ends_qui
         by_due (inl e) ih = ap (due t) (ends_none (suc n) t m e) ∙ e
         by_due (inr f) ih = let l = end_lighter t m f.0 f.1 in ap (due t) (ends_some n t m f.0 f.1) ∙ ih f.0 (omega arith)
 
+-- where every period that runs ends after t, none is due
+pub none_due : (t : ℕ) (m : Market) → ((s : Side) (e : ℕ) → end_of s m ≡ Some e → t < e) → due t m ≡ None
+none_due t m h = by_ways (option_cases (due t m))
+  where
+    by_ways : Ways t m → due t m ≡ None
+    by_ways (inl e) = e
+    by_ways (inr f) = let d = due_is t m f.0 f.1 in absurd (omega (arith, d.by, h f.0.0 f.0.1 d.runs))
+
 -- a market that is settled at t stays as it is
 pub settle_still : (t : ℕ) (m : Market) → ((s : Side) (e : ℕ) → end_of s m ≡ Some e → t < e) → settle t m ≡ m
 unfolding settle
-settle_still t m h = ends_none (length m.orders + 2) t m (none_due (option_cases (due t m)))
-  where
-    none_due : Ways t m → due t m ≡ None
-    none_due (inl e) = e
-    none_due (inr f) = let d = due_is t m f.0 f.1 in absurd (omega (arith, d.by, h f.0.0 f.0.1 d.runs))
+settle_still t m h = ends_none (length m.orders + 2) t m (none_due t m h)

@@ -124,7 +124,7 @@ period_runs_orders : (s : Side) (os : List Order) (m : Market) → period_runs s
 period_runs_orders Buy os m = refl
 period_runs_orders Sell os m = refl
 
-reach_orders : (os : List Order) (m : Market) (x : Order) → reach_in (with_orders os m) x ≡ reach_in m x
+pub reach_orders : (os : List Order) (m : Market) (x : Order) → reach_in (with_orders os m) x ≡ reach_in m x
 reach_orders os m x = reach_same m (with_orders os m) x x refl (period_runs_orders (side_of x) os m) refl refl
 
 apart_orders : (os : List Order) (m : Market) (x y : Order) → Apart m x y → Apart (with_orders os m) x y

@@ -9,6 +9,7 @@ pub mod Questions
 pub mod Runs
 pub mod Growth
 pub mod Laws
+pub mod Finished
 pub mod Examples
 pub mod PriorityRuns
 pub mod RefusalRuns

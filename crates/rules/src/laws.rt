@@ -1,6 +1,7 @@
 // Each carries a law on its contract; nothing calls them.
 ghost use Rattle.std.specs.Prelude.{nat_le, nat_lt, ◌≡◌};
 ghost use Rattle.rules.specs.Examples.{AsTold, QuestionsAsTold, told_with_the_rules};
+ghost use Rattle.rules.specs.Finished.{NothingDue};
 ghost use Rattle.rules.specs.Growth.{TapeOnlyGrows};
 ghost use Rattle.rules.specs.Laws.{EntriesCounted, NeverCrossed, NumberedInTurn, NumbersAscend, OrdersWithinPlaces, ReasonsHold, SettlesAtOnce, SharesRemain, TapeExplainsDiscretion, TicksChangeOnlyTheClock};
 ghost use Rattle.rules.specs.Limits.{fewest_left, last_moment, most_entries, most_resting, protection_period, round_lot};
@@ -44,6 +45,14 @@ pub fn tape_explains_discretion() -> u64
     ensures reasons { ReasonsHold }
 {
     PROTECTION_PERIOD
+}
+
+// Whether a period that ends then still runs at the clock. After every call none is left that has come to its end.
+pub fn nothing_is_due(end: u64, clock: u64) -> bool
+    ensures runs { result ≡ nat_lt clock end }
+    ensures due { NothingDue }
+{
+    clock < end
 }
 
 // Whether a buy and a sell that reach so far can rest together.
