@@ -30,7 +30,7 @@ use Rattle.book.proofs.EntryTests.{name_test, entered_as, entry_passed, test_tel
 
 -- the book, once the entry is counted
 abbrev pub counting : {D T : Type 0} → ℕ → Engine D T → Engine D T
-counting k b = record { directory = b.directory; market = b.market; clock = b.clock; entries = k; room = b.room }
+counting k b = record { directory = b.directory; market = b.market; clock = b.clock; entries = k }
 
 -- what lapses leaves no trace on the tape
 rested_tape : (f : TimeInForce) (t k n : ℕ) (m : Market) → (rested f t k n m).book.market.tape ≡ m.tape
@@ -128,4 +128,4 @@ module _ {D T : Type 0} (d : DirectoryOf D) (t : TapeOf T) (b mid : Engine D T) 
         (done.clock ∙ brought.clock ∙ sym (rested_clock w.time_in_force time k w.shares swept))
         (done.entries ∙ sym (rested_entries w.time_in_force time k w.shares swept))
         ∙ sym (ap (λ (o : Outcome). o.book) (entry_passed time id w here k test)))
-        (record { tied = done.tidied.tied; rests = done.tidied.rests; capacity = done.tidied.capacity; room = done.tidied.room })
+        (record { tied = done.tidied.tied; rests = done.tidied.rests; capacity = done.tidied.capacity })

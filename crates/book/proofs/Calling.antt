@@ -68,7 +68,6 @@ module _ {D T : Type 0} (d : DirectoryOf D) (t : TapeOf T) where
         book = sym (ap (λ (o : Outcome). o.book) e);
         sound = sound;
         capacity = refl;
-        room = refl;
       }
 
   -- no call writes more lines than there are orders that rest before it
@@ -88,14 +87,13 @@ module _ {D T : Type 0} (d : DirectoryOf D) (t : TapeOf T) where
       omega (arith, ap (λ (o : Outcome). length o.book.market.tape) done, lines_few b (tick (time_of c)) sound, leb-true _ _ passed.room)
 
   -- a call that is carried out, or refused once the clock is at its time
-  finished : (b after : Engine D T) (c : Call) (a : Answer) → Sound d t b → a ≡ (outcome_of t b c).answer → book_of t after ≡ (outcome_of t b c).book → BookTied d after → AllRest (vec_items after.market.table.rows) → capacity_of t after.market ≡ capacity_of t b.market → after.room ≡ b.room → Carried d t b after c a
-  finished b after c a sound answer book tied rests capacity same_room =
+  finished : (b after : Engine D T) (c : Call) (a : Answer) → Sound d t b → a ≡ (outcome_of t b c).answer → book_of t after ≡ (outcome_of t b c).book → BookTied d after → AllRest (vec_items after.market.table.rows) → capacity_of t after.market ≡ capacity_of t b.market → Carried d t b after c a
+  finished b after c a sound answer book tied rests capacity =
       record {
         answer = answer;
         book = book;
         sound = record { tied = tied; rests = rests; reached = further sound.reached };
         capacity = capacity;
-        room = same_room;
       }
     where
       further : Reached t b → Reached t after
@@ -156,7 +154,6 @@ module _ {D T : Type 0} (d : DirectoryOf D) (t : TapeOf T) where
         tied = tidied.tied sound.tied;
         rests = tidied.rests;
         capacity = tidied.capacity;
-        room = tidied.room;
       }
 
   -- what the rule book does once the clock is at the time is done
@@ -171,11 +168,10 @@ module _ {D T : Type 0} (d : DirectoryOf D) (t : TapeOf T) where
       (tidied.tied brought.tied)
       tidied.rests
       (tidied.capacity ∙ brought.capacity)
-      (tidied.room ∙ brought.room)
 
   -- nothing is done once the clock is at the time
   idle : {b mid : Engine D T} {time : ℕ} → Brought d t b mid time → Tidied d t mid mid
-  idle brought = record { tied = λ h. h; rests = brought.rests; capacity = refl; room = refl }
+  idle brought = record { tied = λ h. h; rests = brought.rests; capacity = refl }
 
   -- a refusal once the clock is at the time leaves the book as it is then
   pub declined : (b mid : Engine D T) (c : Call) (why : Refusal) → Sound d t b → Brought d t b mid (time_of c) → names_lawfully c ≡ true

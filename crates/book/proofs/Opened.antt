@@ -1,7 +1,6 @@
 -- A book on an emptied directory, an empty table and an empty tape is sound: it is what no call at all leaves. Cite empty_tape,
 -- new_book and new_sound.
-use Rattle.std.proofs.Common.{◌≡◌, ℕ, ◌+◌, false, List, [], ◌∷◌, length, is_some, vec_items, Option, sym, refl, ap, ◌∙◌, subst, arith}
-use Rattle.roll.specs.Rolls.{at_place}
+use Rattle.std.proofs.Common.{◌≡◌, ℕ, ◌+◌, ◌≤◌, List, [], ◌∷◌, length, vec_items, Option, sym, refl, ap, ◌∙◌, subst, arith}
 use Rattle.tape.specs.declared.line.Line.{Line}
 use Rattle.tape.specs.declared.tape.Tape.{Ghosts as TapeOf}
 use Rattle.directory.specs.declared.directory.Directory.{Ghosts as DirectoryOf}
@@ -18,9 +17,9 @@ use Rattle.book.specs.Tied.{Tied, number_named}
 use Rattle.book.specs.Books.{book_of, Sound}
 use Rattle.book.proofs.Alike.{same_book}
 
-pub empty_tape : (ls : List Line) → is_some (at_place ls 1) ≡ false → ls ≡ []
-empty_tape [] e = refl
-empty_tape (l ∷ ls) e = absurd (let z : ◌≡◌ {A = ℕ} 0 1 = cc in omega arith)
+pub empty_tape : (ls : List Line) (n : ℕ) → n ≡ length ls → n ≤ 0 → ls ≡ []
+empty_tape [] n e f = refl
+empty_tape (l ∷ ls) n e f = absurd (omega (arith, e, f))
 
 tied_none : (number : List ℕ → Option ℕ) (count : ℕ) → Emptied number count → Tied number count []
 unfolding number_named
@@ -30,9 +29,9 @@ nothing_run : (room : ℕ) (b : Book) → (run room [] b).book ≡ b
 unfolding run
 nothing_run room b = refl
 
-module _ {D T : Type 0} (d : DirectoryOf D) (t : TapeOf T) (directory : D) (tape : T) (table : Table) (room bid offer : ℕ) where
+module _ {D T : Type 0} (d : DirectoryOf D) (t : TapeOf T) (directory : D) (tape : T) (table : Table) (bid offer : ℕ) where
   abbrev fresh : Engine D T
-  fresh = record { directory = directory; market = record { table = table; tape = tape }; clock = 0; entries = 0; room = room }
+  fresh = record { directory = directory; market = record { table = table; tape = tape }; clock = 0; entries = 0 }
 
   module _ (empty : t.lines tape ≡ []) (market : seen table ≡ (opened bid offer).market) where
     as_opened : book_of t fresh ≡ opened bid offer

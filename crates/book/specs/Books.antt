@@ -29,7 +29,3 @@ pub record Sound {D T : Type 0} (directory_make : DirectoryOf D) (tape_make : Ta
   pub tied : BookTied directory_make engine
   pub rests : AllRest (vec_items engine.market.table.rows)
   pub reached : Reached tape_make engine
-
--- the book knows how many lines its tape has room for, written and free
-abbrev pub KnowsRoom : {D T : Type 0} → TapeOf T → Engine D T → Type 0
-KnowsRoom tape_make engine = engine.room ≡ capacity_of tape_make engine.market

@@ -23,7 +23,6 @@ pub record Carried {D T : Type 0} (directory_make : DirectoryOf D) (tape_make : 
   pub book : book_of tape_make after ≡ (outcome_of tape_make before made).book
   pub sound : Sound directory_make tape_make after
   pub capacity : capacity_of tape_make after.market ≡ capacity_of tape_make before.market
-  pub room : after.room ≡ before.room
 
 -- the two refusals that every call may have, before the clock moves
 abbrev pub time_and_tape : ℕ → ℕ → Book → Result (Unit {0}) Refusal
@@ -37,7 +36,6 @@ pub record Tidied {D T : Type 0} (directory_make : DirectoryOf D) (tape_make : T
   pub tied : BookTied directory_make before → BookTied directory_make after
   pub rests : AllRest (vec_items after.market.table.rows)
   pub capacity : capacity_of tape_make after.market ≡ capacity_of tape_make before.market
-  pub room : after.room ≡ before.room
 
 -- the clock has come to a call's time: what is left to do is what the rule book does from there, and its lines find room
 pub record Brought {D T : Type 0} (directory_make : DirectoryOf D) (tape_make : TapeOf T) (before after : Engine D T) (time : ℕ) : Type 0 where
@@ -48,7 +46,6 @@ pub record Brought {D T : Type 0} (directory_make : DirectoryOf D) (tape_make : 
   pub tied : BookTied directory_make after
   pub rests : AllRest (vec_items after.market.table.rows)
   pub capacity : capacity_of tape_make after.market ≡ capacity_of tape_make before.market
-  pub room : after.room ≡ before.room
 
 -- the start of every call at a time: it is refused, or the clock comes to the time
 abbrev pub Begun : {D T : Type 0} → DirectoryOf D → TapeOf T → Engine D T → Engine D T → ℕ → Result (Unit {0}) Refusal → Type 0

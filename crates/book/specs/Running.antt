@@ -5,6 +5,7 @@ use Rattle.rules.specs.Answers.{Answer, Told, told}
 use Rattle.rules.specs.Calls.{Call, Outcome, call}
 use Rattle.rules.specs.Runs.{opened, run}
 use Rattle.tape.specs.declared.tape.Tape.{Ghosts as TapeOf}
+use Rattle.market.specs.Markets.{capacity_of}
 use Rattle.book.specs.declared.engine.Engine.{Engine}
 use Rattle.book.specs.Books.{book_of}
 
@@ -29,7 +30,7 @@ after state made = record { book = (outcome state made).book; room = state.room 
 
 -- how an engine runs
 abbrev pub running : {D T : Type 0} → TapeOf T → Engine D T → Running
-running tape_make engine = record { book = book_of tape_make engine; room = engine.room }
+running tape_make engine = record { book = book_of tape_make engine; room = capacity_of tape_make engine.market }
 
 -- a new book, whose tape has room for so many lines
 abbrev pub new_on : ℕ → ℕ → ℕ → Running

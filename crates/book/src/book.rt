@@ -42,13 +42,13 @@ pub struct Explanation {
 
 impl<D: Directory, T: Tape> Model for Book<D, T> {
     ghost use Rattle.book.specs.Running.{Running, running};
-    ghost use Rattle.book.specs.Books.{Sound, KnowsRoom};
+    ghost use Rattle.book.specs.Books.{Sound};
 
     ghost Value = { Running };
 
     ghost view = { λ b. running T.Tape b.engine };
 
-    ghost invariant = { λ b. Sound D.Directory T.Tape b.engine × KnowsRoom T.Tape b.engine };
+    ghost invariant = { λ b. Sound D.Directory T.Tape b.engine };
 }
 
 impl<D: Directory, T: Tape> Book<D, T> {

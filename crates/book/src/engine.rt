@@ -20,15 +20,13 @@ use rules::{LAST_MOMENT, MOST_ENTRIES, MOST_RESTING, Refusal};
 use tape::Tape;
 use terms::{Identifier, Quote, Terms, TimeInForce, lawful_identifier};
 
-// Between calls it is sound, as `Book` says; while a call runs it need not be. `room` is how many lines the tape had free when the
-// book was opened.
+// Between calls it is sound, as `Book` says; while a call runs it need not be.
 #[derive(Drop)]
 pub(crate) struct Engine<D: Directory, T: Tape> {
     pub(crate) directory: D,
     pub(crate) market: Market<T>,
     pub(crate) clock: u64,
     pub(crate) entries: u32,
-    pub(crate) room: usize,
 }
 
 impl<D: Directory, T: Tape> Engine<D, T> {

@@ -30,7 +30,7 @@ fn table_for<T: Tape>(heap: Global, quote: Quote, tape: &T) -> Result<Table, Ope
         (λ t. (T.Tape.lines tape.now ≡ []) × (t.rows.items ≡ []) × (t.quote ≡ quote) × (seen t ≡ (opened quote.bid quote.offer).market))
         (λ why. Because T.Tape tape.now why) }
 {
-    if tape.read(1).is_some() {
+    if tape.len() > 0 {
         return Err(OpenRefusal::TapeUsed);
     }
     Ok(Table::open(heap, quote)?)
@@ -84,13 +84,11 @@ impl<D: Directory, T: Tape> Prepared<D, T> {
             table,
         } = self;
         directory.clear();
-        let room = tape.free_lines();
         let engine = Engine {
             directory,
             market: Market { table, tape },
             clock: 0,
             entries: 0,
-            room,
         };
         Book { engine }
     }

@@ -8,6 +8,6 @@ returns-clause-figures g c = rw (← c.self.view_is) (c.figures_of.ensures (g.T.
 pub returns-clause-names : goal.returns-clause-names
 returns-clause-names g c =
     let engine = c.self.inside.engine in
-    let sound = c.self.invariant.0 in
+    let sound = c.self.invariant in
     rw (← c.self.view_is)
     (has_pairs (g.D.Directory.number engine.directory) (g.D.Directory.count engine.directory) (vec_items engine.market.table.rows) sound.tied sound.rests)

@@ -8,11 +8,11 @@ pub returns-clause-reached : goal.returns-clause-reached
 returns-clause-reached g c = reached _ _ _ _ c.self.view_is c.self.invariant
 
 pub returns-clause-explained : goal.returns-clause-explained
-returns-clause-explained g c = rw (← c.self.view_is) (discretion_explained _ _ _ c.self.invariant.0)
+returns-clause-explained g c = rw (← c.self.view_is) (discretion_explained _ _ _ c.self.invariant)
 
 pub returns-clause-never_crossed : goal.returns-clause-never_crossed
-returns-clause-never_crossed g c = rw (← c.self.view_is) (uncrossed _ _ _ c.self.invariant.0)
+returns-clause-never_crossed g c = rw (← c.self.view_is) (uncrossed _ _ _ c.self.invariant)
 
 pub returns-clause-distinct : goal.returns-clause-distinct
 returns-clause-distinct g c =
-    rw (← c.self.view_is) (distinct_names (vec_items c.self.inside.engine.market.table.rows) c.self.invariant.0.tied.apart c.self.invariant.0.rests)
+    rw (← c.self.view_is) (distinct_names (vec_items c.self.inside.engine.market.table.rows) c.self.invariant.tied.apart c.self.invariant.rests)

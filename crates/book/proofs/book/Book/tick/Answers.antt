@@ -10,7 +10,7 @@ use Rattle.book.proofs.book.Book.tick.Goals.{After-advance}
 use Rattle.book.proofs.book.Book.tick.Given.{Over}
 
 carried : (g : Over) (c : After-advance g) → Carried g.D.Directory g.T.Tape c.self.inside.engine c.advance.new.self (tick c.args.time) (tick_answer c.advance.result)
-carried g c = tick_carried g.D.Directory g.T.Tape c.self.inside.engine c.advance.new.self c.args.time c.advance.result c.self.invariant.0 c.advance.ensures
+carried g c = tick_carried g.D.Directory g.T.Tape c.self.inside.engine c.advance.new.self c.args.time c.advance.result c.self.invariant c.advance.ensures
 
 pub invariant_of-self : goal.invariant_of-self
 invariant_of-self g c = kept _ _ _ _ _ _ _ c.self.view_is c.self.invariant (carried g c)

@@ -15,13 +15,13 @@ pub returns-in_err-number : goal.returns-in_err-number
 returns-in_err-number g c =
     let id = c.args.id.now in
     rw (c.from_residual.ensures, ← c.self.view_is)
-    (found_none id (vec_items c.self.inside.engine.market.table.rows) c.self.invariant.0.rests (sym (c.self.invariant.0.tied.known id) ∙ sym c.in_err-number.ensures))
+    (found_none id (vec_items c.self.inside.engine.market.table.rows) c.self.invariant.rests (sym (c.self.invariant.tied.known id) ∙ sym c.in_err-number.ensures))
 
 pub returns-in_err-row : goal.returns-in_err-row
 returns-in_err-row g c =
     let id = c.args.id.now in
     let table = c.self.inside.engine.market.table in
-    let found = found_some id (vec_items table.rows) c.in_ok-number.number c.self.invariant.0.rests table.ascending (sym (c.self.invariant.0.tied.known id) ∙ sym c.in_ok-number.ensures) in
+    let found = found_some id (vec_items table.rows) c.in_ok-number.number c.self.invariant.rests table.ascending (sym (c.self.invariant.tied.known id) ∙ sym c.in_ok-number.ensures) in
     absurd (none_some (resting c.in_ok-number.number (orders_in (vec_items table.rows))) found.order (sym c.in_err-row.ensures) found.rests)
 
 pub returns : goal.returns
@@ -35,7 +35,7 @@ returns g c =
     let k = c.in_ok-number.number in
     let orders = orders_in (vec_items table.rows) in
     let order = row_order c.in_ok-row.row in
-    let found = found_some id (vec_items table.rows) k c.self.invariant.0.rests table.ascending (sym (c.self.invariant.0.tied.known id) ∙ sym c.in_ok-number.ensures) in
+    let found = found_some id (vec_items table.rows) k c.self.invariant.rests table.ascending (sym (c.self.invariant.tied.known id) ∙ sym c.in_ok-number.ensures) in
     let rests : resting k orders ≡ Some order = sym c.in_ok-row.ensures in
     let same : found.order ≡ order = some_same found.order order (sym found.rests ∙ rests) in
     let told = c.explain.ensures in
@@ -45,5 +45,5 @@ returns g c =
       ranked = c.ranked.ensures;
       reach = c.reach.ensures ∙ reach_still (t.lines here.market.tape) table order;
       told = told;
-      holds = subst (λ (w : Why). Reason b order w) (sym told) (reasoned g.D.Directory t here order c.self.invariant.0 (resting_in k orders order rests).0);
+      holds = subst (λ (w : Why). Reason b order w) (sym told) (reasoned g.D.Directory t here order c.self.invariant (resting_in k orders order rests).0);
     })

@@ -18,5 +18,4 @@ returns-clause-tidied g c =
           (tied_kept (d.number here.directory) (d.count here.directory) (vec_items here.market.table.rows) (vec_items c.settle.new.self.table.rows) c.settle.ensures.rows tied);
       rests = c.tidy.ensures.tidied.rests;
       capacity = c.tidy.ensures.tidied.capacity ∙ c.settle.ensures.capacity;
-      room = c.tidy.ensures.tidied.room;
     }

@@ -34,5 +34,4 @@ returns g c =
           (tied_kept (d.number mid.directory) (d.count mid.directory) (vec_items mid.market.table.rows) (vec_items c.requote.new.self.table.rows) c.requote.ensures.rows tied);
       rests = c.tidy.ensures.tidied.rests;
       capacity = c.tidy.ensures.tidied.capacity ∙ c.requote.ensures.capacity;
-      room = c.tidy.ensures.tidied.room;
     })

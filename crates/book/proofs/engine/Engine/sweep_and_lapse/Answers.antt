@@ -44,7 +44,6 @@ returns g c =
                 (tied_kept (d.number here.directory) (d.count here.directory) rows (vec_items c.drop_newest.new.self.rows) fewer ready.tied);
             rests = c.tidy.ensures.tidied.rests;
             capacity = c.tidy.ensures.tidied.capacity ∙ c.sweep_in.ensures.capacity;
-            room = c.tidy.ensures.tidied.room;
           };
       clock = c.tidy.ensures.clock;
       entries = c.tidy.ensures.entries;

@@ -39,7 +39,6 @@ returns g c =
                 (tied_kept (d.number held) (d.count held) (rows ++ (row ∷ [])) (vec_items c.sweep_in.new.self.table.rows) c.sweep_in.ensures.rows joined);
             rests = c.tidy.ensures.tidied.rests;
             capacity = c.tidy.ensures.tidied.capacity ∙ c.sweep_in.ensures.capacity;
-            room = c.tidy.ensures.tidied.room;
           };
       clock = c.tidy.ensures.clock;
       entries = c.tidy.ensures.entries;

@@ -15,5 +15,4 @@ returns-clause-tidied g c =
           (tied_kept (d.number here.directory) (d.count here.directory) (vec_items here.market.table.rows) (vec_items c.leave.new.self.rows) c.leave.ensures.rows.same tied);
       rests = c.tidy.ensures.tidied.rests;
       capacity = c.tidy.ensures.tidied.capacity;
-      room = c.tidy.ensures.tidied.room;
     }

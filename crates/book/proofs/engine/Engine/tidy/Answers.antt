@@ -23,5 +23,4 @@ loop-identifier-preserved g c =
       inv.2,
       inv.3,
       inv.4,
-      inv.5,
     )

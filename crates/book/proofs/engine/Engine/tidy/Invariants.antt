@@ -10,7 +10,6 @@ invariant-loop-identifier g l =
     × (l.self.market.tape ≡ l.initial.self.market.tape)
     × (l.self.clock ≡ l.initial.self.clock)
     × (l.self.entries ≡ l.initial.self.entries)
-    × (l.self.room ≡ l.initial.self.room)
 
 abbrev pub decreases-loop-identifier : goal.decreases-loop-identifier
 decreases-loop-identifier g l = vec_len l.self.market.table.rows
