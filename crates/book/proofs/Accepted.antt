@@ -21,7 +21,7 @@ use Rattle.market.specs.Changes.{newest_number}
 use Rattle.market.specs.Markets.{capacity_of}
 use Rattle.book.specs.declared.engine.Engine.{Engine}
 use Rattle.book.specs.Tied.{row_name}
-use Rattle.book.specs.Books.{book_of, Sound}
+use Rattle.book.specs.Running.{book_of, Sound}
 use Rattle.book.specs.Carried.{Carried, Brought}
 use Rattle.book.specs.Entering.{entry_test, Ready, HasPlace, Entered}
 use Rattle.book.proofs.Alike.{same_book}

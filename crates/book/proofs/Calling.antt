@@ -21,7 +21,7 @@ use Rattle.rules.proofs.Count.{lines_within_orders}
 use Rattle.market.specs.Changes.{AllRest}
 use Rattle.market.specs.Markets.{market_of, capacity_of, HasRoom, CanFollow}
 use Rattle.book.specs.declared.engine.Engine.{Engine}
-use Rattle.book.specs.Books.{book_of, BookTied, Reached, Sound}
+use Rattle.book.specs.Running.{book_of, BookTied, Reached, Sound, running}
 use Rattle.book.specs.Carried.{outcome_of, Carried, Tidied, Brought, Begun, time_and_tape, tick_answer}
 
 -- what the two tests tell
@@ -96,7 +96,7 @@ module _ {D T : Type 0} (d : DirectoryOf D) (t : TapeOf T) where
         capacity = capacity;
       }
     where
-      further : Reached t b → Reached t after
+      further : Reached (running t b) → Reached (running t after)
       further r =
           let free = t.free b.market.tape in
           let room = capacity_of t b.market in

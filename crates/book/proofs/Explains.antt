@@ -13,7 +13,7 @@ use Rattle.rules.proofs.Uncrossed.{never_crossed}
 use Rattle.rules.proofs.Why.{reasons_hold}
 use Rattle.market.specs.Markets.{capacity_of}
 use Rattle.book.specs.declared.engine.Engine.{Engine}
-use Rattle.book.specs.Books.{book_of, Sound}
+use Rattle.book.specs.Running.{book_of, Sound}
 
 pub reasoned : {D T : Type 0} (d : DirectoryOf D) (t : TapeOf T) (b : Engine D T) (o : Order) → Sound d t b → In o (book_of t b).market.orders → Reason (book_of t b) o (why (book_of t b).market o)
 reasoned d t b o sound there =

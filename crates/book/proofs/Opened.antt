@@ -14,7 +14,7 @@ use Rattle.market.specs.Seen.{market_with, seen}
 use Rattle.market.proofs.Retired.{rests_none}
 use Rattle.book.specs.declared.engine.Engine.{Engine}
 use Rattle.book.specs.Tied.{Tied, number_named}
-use Rattle.book.specs.Books.{book_of, Sound}
+use Rattle.book.specs.Running.{book_of, Sound}
 use Rattle.book.proofs.Alike.{same_book}
 
 pub empty_tape : (ls : List Line) (n : ℕ) → n ≡ length ls → n ≤ 0 → ls ≡ []

@@ -6,13 +6,11 @@ use Rattle.rules.specs.Growth.{TapeGrows}
 use Rattle.rules.specs.Market.{Book}
 use Rattle.rules.specs.Answers.{Answer}
 use Rattle.rules.specs.Calls.{Call, call}
-use Rattle.rules.specs.Runs.{opened, run}
 use Rattle.rules.proofs.Grown.{tape_only_grows}
 use Rattle.market.specs.Markets.{capacity_of}
 use Rattle.book.specs.declared.engine.Engine.{Engine}
-use Rattle.book.specs.Books.{book_of, Sound}
 use Rattle.book.specs.Carried.{Carried}
-use Rattle.book.specs.Running.{Running, running, answer_to, after, Reached}
+use Rattle.book.specs.Running.{Running, running, answer_to, after, Reached, book_of, Sound}
 
 abbrev running_with : Book → ℕ → Running
 running_with b n = record { book = b; room = n }

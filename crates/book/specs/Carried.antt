@@ -1,5 +1,5 @@
 -- What a call promises: its answer and the book after it are the rule book's, and the book is sound again.
-use Rattle.std.specs.Prelude.{◌≡◌, ℕ, ◌≤◌, true, false, ◌&&◌, List, [], ◌∷◌, length, Ok, Err, vec_items, Result, if◌then◌else◌, nat_le}
+use Rattle.std.specs.Prelude.{◌≡◌, ℕ, ◌≤◌, true, ◌&&◌, List, [], ◌∷◌, length, Ok, Err, vec_items, Result, if◌then◌else◌, nat_le}
 use Rattle.tape.specs.declared.tape.Tape.{Ghosts as TapeOf}
 use Rattle.directory.specs.declared.directory.Directory.{Ghosts as DirectoryOf}
 use Rattle.rules.specs.declared.refusal.Refusal.{Refusal}
@@ -12,7 +12,7 @@ use Rattle.market.specs.Changes.{AllRest}
 use Rattle.market.specs.Markets.{capacity_of, HasRoom}
 use Rattle.book.specs.declared.engine.Engine.{Engine}
 use Rattle.book.specs.declared.refusal.Rejected.{Rejected}
-use Rattle.book.specs.Books.{book_of, BookTied, Sound}
+use Rattle.book.specs.Running.{book_of, BookTied, Sound}
 
 -- what the rule book makes of a call, with the lines that are free on the tape
 abbrev pub outcome_of : {D T : Type 0} → TapeOf T → Engine D T → Call → Outcome

@@ -17,7 +17,7 @@ use Rattle.market.specs.Joining.{CanJoin}
 use Rattle.market.specs.Markets.{market_of, HasRoom}
 use Rattle.book.specs.declared.engine.Engine.{Engine}
 use Rattle.book.specs.Tied.{row_name}
-use Rattle.book.specs.Books.{BookTied}
+use Rattle.book.specs.Running.{BookTied}
 use Rattle.book.specs.Carried.{Tidied}
 
 -- the entry number n, unless the name is taken, the book is full or the entries are spent

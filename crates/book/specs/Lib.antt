@@ -1,4 +1,3 @@
-pub mod Books
 pub mod Carried
 pub mod Closing
 pub mod Entering

@@ -41,8 +41,7 @@ pub struct Explanation {
 }
 
 impl<D: Directory, T: Tape> Model for Book<D, T> {
-    ghost use Rattle.book.specs.Running.{Running, running};
-    ghost use Rattle.book.specs.Books.{Sound};
+    ghost use Rattle.book.specs.Running.{Running, Sound, running};
 
     ghost Value = { Running };
 

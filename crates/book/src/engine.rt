@@ -1,6 +1,6 @@
 // What a book is made of: a directory, the market, the clock and the count of entries.
 ghost use Rattle.std.specs.Prelude.{MatchResult, false, true, ◌≡◌};
-ghost use Rattle.book.specs.Books.{BookTied, Sound, book_of};
+ghost use Rattle.book.specs.Running.{BookTied, Sound, book_of};
 ghost use Rattle.book.specs.Carried.{Begun, Carried, Tidied, cancel_answer, entry_answer, quote_answer, time_and_tape};
 ghost use Rattle.book.specs.Entering.{Entered, HasPlace, Ready, entry_test};
 ghost use Rattle.market.specs.Changes.{AllRest};

@@ -6,7 +6,7 @@ use Rattle.rules.proofs.Cases.{some_same, none_some}
 use Rattle.rules.proofs.Rows.{resting_in}
 use Rattle.market.specs.Rows.{row_order, orders_in}
 use Rattle.market.proofs.Still.{reach_still}
-use Rattle.book.specs.Books.{book_of}
+use Rattle.book.specs.Running.{book_of}
 use Rattle.book.proofs.Named.{found_none, found_some}
 use Rattle.book.proofs.Explains.{reasoned}
 use Rattle.book.proofs.book.Book.why.Goals as goal

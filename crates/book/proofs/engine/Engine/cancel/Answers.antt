@@ -7,7 +7,7 @@ use Rattle.rules.specs.Answers.{cancelled}
 use Rattle.rules.specs.Calls.{cancel, Outcome, left_of}
 use Rattle.rules.proofs.Lasting.{call_unlawful}
 use Rattle.market.specs.Markets.{market_of}
-use Rattle.book.specs.Books.{book_of}
+use Rattle.book.specs.Running.{book_of}
 use Rattle.book.proofs.Alike.{same_book}
 use Rattle.book.proofs.Named.{found_none, found_some}
 use Rattle.book.proofs.Calling.{early, cancel_none, cancel_some, carried_on, declined}

@@ -15,7 +15,7 @@ use Rattle.market.specs.Rows.{row_order}
 use Rattle.market.specs.Markets.{market_of}
 use Rattle.book.specs.Tied.{row_name}
 use Rattle.book.specs.declared.engine.Engine.{Engine}
-use Rattle.book.specs.Books.{book_of}
+use Rattle.book.specs.Running.{book_of}
 use Rattle.book.specs.Carried.{Carried, Brought}
 use Rattle.book.specs.Entering.{entry_test, Ready, HasPlace, Entered}
 use Rattle.book.proofs.Calling.{early, declined}

@@ -1,6 +1,6 @@
 use Rattle.std.proofs.Common.{◌≡◌, vec_len}
 use Rattle.market.specs.Markets.{market_of}
-use Rattle.book.specs.Books.{BookTied}
+use Rattle.book.specs.Running.{BookTied}
 use Rattle.book.proofs.engine.Engine.tidy.Given as goal
 
 abbrev pub invariant-loop-identifier : goal.invariant-loop-identifier
