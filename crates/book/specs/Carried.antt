@@ -1,5 +1,5 @@
 -- What a call promises: its answer and the book after it are the rule book's, and the book is sound again.
-use Rattle.std.specs.Prelude.{◌≡◌, ℕ, ◌≤◌, true, ◌&&◌, List, [], ◌∷◌, length, Ok, Err, vec_items, Result, if◌then◌else◌, nat_le}
+use Rattle.std.specs.Prelude.{◌≡◌, ℕ, ◌≤◌, true, ◌&&◌, List, [], ◌∷◌, length, Ok, Err, Result, if◌then◌else◌, nat_le}
 use Rattle.tape.specs.declared.tape.Tape.{Ghosts as TapeOf}
 use Rattle.directory.specs.declared.directory.Directory.{Ghosts as DirectoryOf}
 use Rattle.rules.specs.declared.refusal.Refusal.{Refusal}
@@ -10,6 +10,7 @@ use Rattle.rules.specs.Answers.{Answer, entered, cancelled, quoted, ticked, refu
 use Rattle.rules.specs.Calls.{Call, Outcome, call, done_at, time_of, names_lawfully}
 use Rattle.market.specs.Changes.{AllRest}
 use Rattle.market.specs.Markets.{capacity_of, HasRoom}
+use Rattle.market.specs.Seen.{rows_of}
 use Rattle.book.specs.declared.engine.Engine.{Engine}
 use Rattle.book.specs.declared.refusal.Rejected.{Rejected}
 use Rattle.book.specs.Running.{book_of, BookTied, Sound}
@@ -34,7 +35,7 @@ time_and_tape free time book =
 -- a step of a call: the directory is still tied to the rows, every row rests, and the book has the places on its tape that it had
 pub record Tidied {D T : Type 0} (directory_make : DirectoryOf D) (tape_make : TapeOf T) (before after : Engine D T) : Type 0 where
   pub tied : BookTied directory_make before → BookTied directory_make after
-  pub rests : AllRest (vec_items after.market.table.rows)
+  pub rests : AllRest (rows_of after.market.table)
   pub capacity : capacity_of tape_make after.market ≡ capacity_of tape_make before.market
 
 -- the clock has come to a call's time: what is left to do is what the rule book does from there, and its lines find room
@@ -44,7 +45,7 @@ pub record Brought {D T : Type 0} (directory_make : DirectoryOf D) (tape_make : 
   pub done : (made : Call) → time_of made ≡ time → names_lawfully made ≡ true → outcome_of tape_make before made ≡ done_at made (book_of tape_make after)
   pub lines : (made : Call) → time_of made ≡ time → names_lawfully made ≡ true → HasRoom tape_make after.market (done_at made (book_of tape_make after)).book.market
   pub tied : BookTied directory_make after
-  pub rests : AllRest (vec_items after.market.table.rows)
+  pub rests : AllRest (rows_of after.market.table)
   pub capacity : capacity_of tape_make after.market ≡ capacity_of tape_make before.market
 
 -- the start of every call at a time: it is refused, or the clock comes to the time

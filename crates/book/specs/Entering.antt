@@ -1,5 +1,5 @@
 -- An entry, step by step: the tests once the clock is at its time, and what comes of the new order's row.
-use Rattle.std.specs.Prelude.{◌≡◌, ℕ, ◌+◌, ◌<◌, ◌≤◌, Bool, true, false, List, is_some, None, Ok, Err, vec_items, Result, nat_le}
+use Rattle.std.specs.Prelude.{◌≡◌, ℕ, ◌+◌, ◌<◌, ◌≤◌, Bool, true, false, List, is_some, None, Ok, Err, Result, nat_le}
 use Rattle.terms.specs.Terms.{OrderTerms}
 use Rattle.terms.specs.Identifiers.{lawful_identifier}
 use Rattle.tape.specs.declared.tape.Tape.{Ghosts as TapeOf}
@@ -15,6 +15,7 @@ use Rattle.market.specs.Rows.{row_order}
 use Rattle.market.specs.Changes.{AllRest}
 use Rattle.market.specs.Joining.{CanJoin}
 use Rattle.market.specs.Markets.{market_of, HasRoom}
+use Rattle.market.specs.Seen.{rows_of}
 use Rattle.book.specs.declared.engine.Engine.{Engine}
 use Rattle.book.specs.Tied.{row_name}
 use Rattle.book.specs.Running.{BookTied}
@@ -36,8 +37,8 @@ entry_test id terms book =
 pub record Ready {D T : Type 0} (directory_make : DirectoryOf D) (tape_make : TapeOf T) (engine : Engine D T) (time : ℕ) (row : Row) : Type 0 where
   pub day : time ≤ last_moment
   pub tied : BookTied directory_make engine
-  pub rests : AllRest (vec_items engine.market.table.rows)
-  pub joins : CanJoin (vec_items engine.market.table.rows) row
+  pub rests : AllRest (rows_of engine.market.table)
+  pub joins : CanJoin (rows_of engine.market.table) row
   pub lines : HasRoom tape_make engine.market (swept_in time (row_order row) (market_of tape_make engine.market))
 
 -- the directory takes the new row's pair

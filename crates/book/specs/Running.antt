@@ -1,5 +1,5 @@
 -- A book as its callers see it: the rule book's book, and how many lines its tape has room for, written and free.
-use Rattle.std.specs.Prelude.{◌≡◌, ℕ, ◌-◌, List, length, vec_items}
+use Rattle.std.specs.Prelude.{◌≡◌, ℕ, ◌-◌, List, length}
 use Rattle.rules.specs.Market.{Book}
 use Rattle.rules.specs.Answers.{Answer, Told, told}
 use Rattle.rules.specs.Calls.{Call, Outcome, call}
@@ -8,6 +8,7 @@ use Rattle.tape.specs.declared.tape.Tape.{Ghosts as TapeOf}
 use Rattle.directory.specs.declared.directory.Directory.{Ghosts as DirectoryOf}
 use Rattle.market.specs.Changes.{AllRest}
 use Rattle.market.specs.Markets.{capacity_of, market_of}
+use Rattle.market.specs.Seen.{rows_of}
 use Rattle.book.specs.declared.engine.Engine.{Engine}
 use Rattle.book.specs.Tied.{Tied}
 
@@ -51,10 +52,10 @@ pub record Reached (state : Running) : Type 0 where
 
 -- the directory has the pairs of the rows, and no others
 abbrev pub BookTied : {D T : Type 0} → DirectoryOf D → Engine D T → Type 0
-BookTied directory_make engine = Tied (directory_make.number engine.directory) (directory_make.count engine.directory) (vec_items engine.market.table.rows)
+BookTied directory_make engine = Tied (directory_make.number engine.directory) (directory_make.count engine.directory) (rows_of engine.market.table)
 
 -- between calls: the directory is tied to the rows, every row rests, and the book was reached by some run
 pub record Sound {D T : Type 0} (directory_make : DirectoryOf D) (tape_make : TapeOf T) (engine : Engine D T) : Type 0 where
   pub tied : BookTied directory_make engine
-  pub rests : AllRest (vec_items engine.market.table.rows)
+  pub rests : AllRest (rows_of engine.market.table)
   pub reached : Reached (running tape_make engine)

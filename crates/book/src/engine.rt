@@ -6,6 +6,7 @@ ghost use Rattle.book.specs.Entering.{Entered, HasPlace, Ready, entry_test};
 ghost use Rattle.market.specs.Changes.{AllRest};
 ghost use Rattle.market.specs.Markets.{CanFollow, market_of};
 ghost use Rattle.market.specs.Rows.{identifier_bytes, row_order};
+ghost use Rattle.market.specs.Seen.{rows_of};
 ghost use Rattle.rules.specs.Calls.{cancel as cancel_of, entry as entry_of, left_of, no_place, quote as quote_of, rested, swept_in};
 ghost use Rattle.rules.specs.Clock.{at_time, settle};
 ghost use Rattle.rules.specs.Market.{resting, with_orders, without};
@@ -88,7 +89,7 @@ impl<D: Directory, T: Tape> Engine<D, T> {
     // The entry number that the order gets; the refusals are those that come once the clock is at the entry's time.
     pub(crate) fn admit(&self, id: &[u8], terms: Terms) -> Result<u32, Refusal>
         requires tied { BookTied D.Directory self.now }
-        requires rests { AllRest self.now.market.table.rows.items }
+        requires rests { AllRest (rows_of self.now.market.table) }
         ensures { result ≡ entry_test id.now (terms_of terms) (book_of T.Tape self.now) }
     {
         if self.directory.find(id).is_some() {

@@ -4,6 +4,7 @@ ghost use Rattle.book.specs.Replayed.{Followed};
 ghost use Rattle.book.specs.Reran.{PlayedThrough, StagedFor};
 ghost use Rattle.book.specs.Running.{after, answer_to};
 ghost use Rattle.book.specs.Told.{answer_of, call_of, told_of};
+ghost use Rattle.market.specs.Seen.{quote_of};
 
 use crate::book::Book;
 use crate::call::{Answer, Call};
@@ -58,7 +59,7 @@ impl<D: Directory, T: Tape> Stage<D, T> {
     pub(crate) fn play(self, calls: &[Call]) -> Played<D, T>
         requires none { self.answers.items ≡ [] }
         requires room { length calls.now ≤ vec_capacity self.answers }
-        ensures { PlayedThrough T.Tape self.book.table.quote.bid self.book.table.quote.offer self.book.tape calls.now result }
+        ensures { PlayedThrough T.Tape (quote_of self.book.table).bid (quote_of self.book.table).offer self.book.tape calls.now result }
     {
         let Stage { book, mut answers } = self;
         let mut book = book.open();

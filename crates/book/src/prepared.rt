@@ -1,7 +1,7 @@
 // What a book is opened on.
 ghost use Rattle.std.specs.Prelude.{MatchResult, [], ◌≡◌};
 ghost use Rattle.book.specs.Opening.{Because};
-ghost use Rattle.market.specs.Seen.{seen};
+ghost use Rattle.market.specs.Seen.{quote_of, rows_of, seen};
 ghost use Rattle.rules.specs.Runs.{opened};
 
 use crate::book::Book;
@@ -20,14 +20,14 @@ pub(crate) struct Prepared<D: Directory, T: Tape> {
     pub(crate) tape: T,
     pub(crate) table: Table,
     ghost unused: { T.Tape.lines tape ≡ [] },
-    ghost no_rows: { table.rows.items ≡ [] },
-    ghost fresh: { seen table ≡ (opened table.quote.bid table.quote.offer).market },
+    ghost no_rows: { rows_of table ≡ [] },
+    ghost fresh: { seen table ≡ (opened (quote_of table).bid (quote_of table).offer).market },
 }
 
 // The table of a new book, if the tape is empty.
 fn table_for<T: Tape>(heap: Global, quote: Quote, tape: &T) -> Result<Table, OpenRefusal>
     ensures { MatchResult result
-        (λ t. (T.Tape.lines tape.now ≡ []) × (t.rows.items ≡ []) × (t.quote ≡ quote) × (seen t ≡ (opened quote.bid quote.offer).market))
+        (λ table. (T.Tape.lines tape.now ≡ []) × (rows_of table ≡ []) × (quote_of table ≡ quote) × (seen table ≡ (opened quote.bid quote.offer).market))
         (λ why. Because T.Tape tape.now why) }
 {
     if tape.len() > 0 {
@@ -76,7 +76,7 @@ impl<D: Directory, T: Tape> Prepared<D, T> {
 
     // The directory is emptied. Everything is had, so that this cannot fail.
     pub(crate) fn open(self) -> Book<D, T>
-        ensures { result ≡ new_on (T.Tape.free self.tape) self.table.quote.bid self.table.quote.offer }
+        ensures { result ≡ new_on (T.Tape.free self.tape) (quote_of self.table).bid (quote_of self.table).offer }
     {
         let Prepared {
             mut directory,

@@ -8,7 +8,7 @@ use Rattle.std.proofs.Math.Bool.{and-true, and_assoc}
 use Rattle.std.specs.List.{filter, list_all, sum_by}
 use Rattle.rules.specs.Market.{Order}
 use Rattle.market.specs.declared.row.Row.{Row}
-use Rattle.market.specs.Rows.{row_order, rests, orders_in}
+use Rattle.market.specs.Rows.{most_rows, row_order, rests, orders_in}
 use Rattle.market.proofs.Found.{orders_of, orders_in_resting, orders_in_spent}
 use Rattle.market.proofs.Joined.{orders_in_none}
 
@@ -43,7 +43,7 @@ none_of true r f = omega (arith, ltb-false 0 r.left f)
 none_of false r f = refl
 
 -- with so many rows at most, the sum of their shares fits
-pub few_shares : (h : Row → ℕ) (rs : List Row) → length rs ≤ 65 → sum_by (λ r. min (h r) (2 ^ 32)) rs < 2 ^ 64
+pub few_shares : (h : Row → ℕ) (rs : List Row) → length rs ≤ most_rows → sum_by (λ r. min (h r) (2 ^ 32)) rs < 2 ^ 64
 few_shares h rs few =
     let most : (r : Row) → min (h r) (2 ^ 32) ≤ 2 ^ 32 = λ r. omega arith in
     let all : sum_by (λ r. min (h r) (2 ^ 32)) rs ≤ length rs * 2 ^ 32 = sum_by-le (λ r. min (h r) (2 ^ 32)) (2 ^ 32) rs (λ k d lt. most (get_or rs k d)) in

@@ -18,4 +18,5 @@ pub mod Tallies
 pub mod Traded
 pub mod Turns
 pub mod Underway
+pub mod Ended
 pub mod Written

@@ -1,14 +1,13 @@
 -- One turn of a round, whether the row at its index is woken or not. Cite row_there for a row, round_turn for what is left of the
 -- round, absent_turn for the orders that are not there, room_turn for the tape.
-use Rattle.std.proofs.Common.{◌≡◌, ℕ, zero, suc, ◌+◌, ◌<◌, ◌≤◌, Bool, true, false, ◌&&◌, ◌⊎◌, List, [], ◌∷◌, length, get_or, drop, None, sym, ap, ◌∙◌, inl, inr, arith}
+use Rattle.std.proofs.Common.{◌≡◌, ℕ, zero, suc, ◌+◌, ◌<◌, ◌≤◌, Bool, true, false, cond, ◌&&◌, ◌⊎◌, List, [], ◌∷◌, length, get_or, drop, None, sym, ap, ◌∙◌, inl, inr, arith}
 use Rattle.std.proofs.lemmas.List.{get_or_default, drop_all}
-use Rattle.std.proofs.lemmas.Bool.{cases_Bool}
+use Rattle.std.proofs.lemmas.Bool.{cases_Bool, cond-true, cond-false}
 use Rattle.terms.specs.Terms.{OrderTerms}
 use Rattle.terms.specs.Sides.{same_side}
 use Rattle.rules.specs.Market.{Order, Market, resting, those}
 use Rattle.rules.specs.Calls.{pegged}
 use Rattle.rules.specs.Sweep.{sweep, sweep_each}
-use Rattle.rules.proofs.Cases.{if_both, if_true, if_false}
 use Rattle.market.specs.declared.row.Row.{Row}
 use Rattle.market.specs.Rows.{row_order, rising, orders_in}
 use Rattle.market.specs.Changes.{SameButShares}
@@ -39,14 +38,17 @@ module _ (g : Round) (t : ℕ) (rs now : List Row) (i : ℕ) (d : Row) (lt : i <
       by : (woken g (row_order cur) ≡ true) ⊎ (woken g (row_order cur) ≡ false) → sweep_each t (those (woken g) (orders_in (drop i rs))) m ≡ sweep_each t (those (woken g) (orders_in (drop (i + 1) rs))) (swept_if g t cur m)
       by (inl h) =
           round_sweeps (woken g) (by_terms g) t rs now i cur lt at same m up gone h
-          ∙ ap (sweep_each t (those (woken g) (orders_in (drop (i + 1) rs)))) (sym (if_true (woken g (row_order cur)) (sweep t (row_order cur) m) m h))
+          ∙ ap (sweep_each t (those (woken g) (orders_in (drop (i + 1) rs)))) (sym (cond-true (woken g (row_order cur)) (sweep t (row_order cur) m) m h))
       by (inr h) =
           round_passes (woken g) (by_terms g) t rs now i cur lt at same m h
-          ∙ ap (sweep_each t (those (woken g) (orders_in (drop (i + 1) rs)))) (sym (if_false (woken g (row_order cur)) (sweep t (row_order cur) m) m h))
+          ∙ ap (sweep_each t (those (woken g) (orders_in (drop (i + 1) rs)))) (sym (cond-false (woken g (row_order cur)) (sweep t (row_order cur) m) m h))
 
 pub absent_turn : (g : Round) (t : ℕ) (r : Row) (k : ℕ) (m : Market) → resting k m.orders ≡ None → resting k (swept_if g t r m).orders ≡ None
-absent_turn g t r k m e =
-    if_both (woken g (row_order r)) (sweep t (row_order r) m) m (λ z. resting k z.orders ≡ None) (λ _. absent_after k t (row_order r) m e) (λ _. e)
+absent_turn g t r k m e = by (woken g (row_order r))
+  where
+    by : (wakes : Bool) → resting k (cond wakes (sweep t (row_order r) m) m).orders ≡ None
+    by true = absent_after k t (row_order r) m e
+    by false = e
 
 -- a turn that is still to come has room, if the whole round has
 pub room_turn : (t : ℕ) (os : List Order) (m whole : Market) (capacity : ℕ) → whole ≡ sweep_each t os m → length whole.tape ≤ capacity → length m.tape ≤ capacity

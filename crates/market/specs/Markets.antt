@@ -1,32 +1,32 @@
--- The order table with its tape, as the rule book's market.
-use Rattle.std.specs.Prelude.{◌≡◌, ℕ, ◌+◌, ◌≤◌, length, vec_items}
+-- The order table with its tape, as the rule book's market. `make` has what is stated of every tape of its make.
+use Rattle.std.specs.Prelude.{◌≡◌, ℕ, ◌+◌, ◌≤◌, length}
 use Rattle.tape.specs.declared.tape.Tape.{Ghosts as TapeOf}
 use Rattle.rules.specs.Limits.{last_moment}
 use Rattle.rules.specs.Market.{Market}
 use Rattle.market.specs.Changes.{SameButShares}
-use Rattle.market.specs.Seen.{market_with}
+use Rattle.market.specs.Seen.{market_with, rows_of}
 use Rattle.market.specs.declared.market.Market.{Market as TableAndTape}
 
 abbrev pub market_of : {T : Type 0} → TapeOf T → TableAndTape T → Market
-market_of t k = market_with (t.lines k.tape) k.table
+market_of make market = market_with (make.lines market.tape) market.table
 
 -- how many lines the tape holds and has room for, together
 abbrev pub capacity_of : {T : Type 0} → TapeOf T → TableAndTape T → ℕ
-capacity_of t k = length (t.lines k.tape) + t.free k.tape
+capacity_of make market = length (make.lines market.tape) + make.free market.tape
 
 -- the lines of a market that the rule book makes of this one find room on its tape
 abbrev pub HasRoom : {T : Type 0} → TapeOf T → TableAndTape T → Market → Type 0
-HasRoom t k m = length m.tape ≤ capacity_of t k
+HasRoom make market after = length after.tape ≤ capacity_of make market
 
 -- the time is within the day, and the lines of what the rule book makes of the market find room
 -- (the time is any number, since a type of times of the day would ask more of whoever calls)
-pub record CanFollow {T : Type 0} (t : TapeOf T) (k : TableAndTape T) (time : ℕ) (rule : Market → Market) : Type 0 where
+pub record CanFollow {T : Type 0} (make : TapeOf T) (market : TableAndTape T) (time : ℕ) (rule : Market → Market) : Type 0 where
   pub day : time ≤ last_moment
-  pub room : HasRoom t k (rule (market_of t k))
+  pub room : HasRoom make market (rule (market_of make market))
 
 -- what the rule book makes of the market has become of it; the tape has room for as many lines as before, and the rows are the
 -- same but for their shares
-pub record Follows {T : Type 0} (t : TapeOf T) (old new : TableAndTape T) (rule : Market → Market) : Type 0 where
-  pub market : market_of t new ≡ rule (market_of t old)
-  pub capacity : capacity_of t new ≡ capacity_of t old
-  pub rows : SameButShares (vec_items old.table.rows) (vec_items new.table.rows)
+pub record Follows {T : Type 0} (make : TapeOf T) (old new : TableAndTape T) (rule : Market → Market) : Type 0 where
+  pub market : market_of make new ≡ rule (market_of make old)
+  pub capacity : capacity_of make new ≡ capacity_of make old
+  pub rows : SameButShares (rows_of old.table) (rows_of new.table)

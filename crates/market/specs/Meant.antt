@@ -8,10 +8,17 @@ use Rattle.market.specs.declared.explanation.Why.{Why}
 use Rattle.market.specs.declared.explanation.Why.TheVariants.{NoMdo, AtLimit, AtMidpoint, Protected, Discretion}
 
 abbrev pub standing_as : Standing → rule.Standing
-standing_as s = record { number = s.number; ranked = s.ranked; reach = s.reach; left = s.left }
+standing_as standing =
+    record { number = standing.number; ranked = standing.ranked; reach = standing.reach; left = standing.left }
 
 abbrev pub figures_as : PerSide Tally → rule.Figures
-figures_as f = record { buys = f.buy.orders; buy_shares = f.buy.shares; sells = f.sell.orders; sell_shares = f.sell.shares }
+figures_as figures =
+    record {
+      buys = figures.buy.orders;
+      buy_shares = figures.buy.shares;
+      sells = figures.sell.orders;
+      sell_shares = figures.sell.shares;
+    }
 
 abbrev pub why_as : Why → rule.Why
 why_as NoMdo = rule.no_mdo
@@ -22,4 +29,4 @@ why_as Discretion = rule.discretion
 
 -- what is told of an order by its side's protection period alone
 abbrev pub protection_of : Order → Market → rule.Why
-protection_of o m = rule.protection m o (end_of (side_of o) m)
+protection_of order market = rule.protection market order (end_of (side_of order) market)

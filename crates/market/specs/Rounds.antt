@@ -1,5 +1,5 @@
 -- Which orders a round sweeps.
-use Rattle.std.specs.Prelude.{ℕ, Bool, true, false, List, Some, None, slice_get}
+use Rattle.std.specs.Prelude.{ℕ, Bool, List, Some, None, if◌then◌else◌, slice_get}
 use Rattle.rules.specs.Market.{Order, Market}
 use Rattle.rules.specs.Sweep.{sweep}
 use Rattle.market.specs.declared.row.Row.{Row}
@@ -10,13 +10,14 @@ use Rattle.market.specs.declared.sweep.Round.{Round}
 use Rattle.market.specs.declared.sweep.Round.TheVariants.{PeriodEnded, QuoteChanged}
 
 abbrev pub woken : Round → Order → Bool
-woken (PeriodEnded s) o = protected_on s o
-woken QuoteChanged o = follows_quote o
+woken (PeriodEnded side) order = protected_on side order
+woken QuoteChanged order = follows_quote order
 
 -- one row of a round
 abbrev pub swept_if : Round → ℕ → Row → Market → Market
-swept_if g t r m = elim (woken g (row_order r)) [ true ↦ sweep t (row_order r) m | false ↦ m ]
+swept_if round time row market = if woken round (row_order row) then sweep time (row_order row) market else market
 
 -- the row at an index, where there is one
 abbrev pub swept_at : Round → ℕ → ℕ → List Row → Market → Market
-swept_at g t i rs m = elim (slice_get rs i) [ None ↦ m | Some r ↦ swept_if g t r m ]
+swept_at round time index rows market =
+    elim (slice_get rows index) [ None ↦ market | Some row ↦ swept_if round time row market ]

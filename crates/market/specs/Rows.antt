@@ -1,24 +1,29 @@
 -- Rows of the order table, as the rule book's orders.
-use Rattle.std.specs.Prelude.{ℕ, Bool, true, false, ◌&&◌, List, [], ◌∷◌, nat_lt}
+use Rattle.std.specs.Prelude.{ℕ, ◌+◌, Bool, true, false, ◌&&◌, List, [], ◌∷◌, nat_lt}
 use Rattle.terms.specs.Made.{terms_of}
+use Rattle.rules.specs.Limits.{most_resting}
 use Rattle.rules.specs.Market.{Order}
 pub use Rattle.terms.specs.Naming.{identifier_bytes}
 use Rattle.market.specs.declared.row.Row.{Row}
 
+-- so many rows stand at most: those that rest, and one that is being entered
+abbrev pub most_rows : ℕ
+most_rows = most_resting + 1
+
 abbrev pub row_order : Row → Order
-row_order r =
-    record { identifier = identifier_bytes r.identifier; number = r.number; terms = terms_of r.terms; left = r.left }
+row_order row =
+    record { identifier = identifier_bytes row.identifier; number = row.number; terms = terms_of row.terms; left = row.left }
 
 -- entry numbers ascend, and the first is above `low`
 abbrev pub rising : ℕ → List Row → Bool
 rising low [] = true
-rising low (r ∷ rs) = nat_lt low r.number && rising r.number rs
+rising low (row ∷ rows) = nat_lt low row.number && rising row.number rows
 
 -- a row with no shares left rests no more
 abbrev pub rests : Row → Bool
-rests r = nat_lt 0 r.left
+rests row = nat_lt 0 row.left
 
 -- the orders that rest, in the rows' order
 unfoldable pub orders_in : List Row → List Order
 orders_in [] = []
-orders_in (r ∷ rs) = elim (rests r) [ true ↦ row_order r ∷ orders_in rs | false ↦ orders_in rs ]
+orders_in (row ∷ rows) = elim (rests row) [ true ↦ row_order row ∷ orders_in rows | false ↦ orders_in rows ]

@@ -9,10 +9,10 @@ use Rattle.rules.specs.Sweep.{side_mark}
 
 -- the mark of a line whose partner is of the side
 abbrev pub mark_if : Bool → Side → Mark
-mark_if false s = Nothing
-mark_if true s = side_mark s
+mark_if false side = Nothing
+mark_if true side = side_mark side
 
--- the side's protection period, where the line at time t depletes
+-- the side's protection period, where the line at the time depletes
 abbrev pub protected_if : Bool → ℕ → Side → Market → Market
-protected_if false t s m = m
-protected_if true t s m = with_end s (Some (t + protection_period)) m
+protected_if false time side market = market
+protected_if true time side market = with_end side (Some (time + protection_period)) market

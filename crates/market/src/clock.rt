@@ -2,6 +2,7 @@ ghost use Rattle.std.specs.Prelude.{◌≡◌};
 ghost use Rattle.market.specs.Markets.{CanFollow, Follows, market_of};
 ghost use Rattle.rules.specs.Calls.{requoted};
 ghost use Rattle.rules.specs.Clock.{due as due_of, end_period as end_period_of, settle as settle_of};
+ghost use Rattle.rules.specs.Finished.{NothingDueAt};
 
 use crate::market::Market;
 use crate::sweep::Round;
@@ -44,7 +45,8 @@ impl<T: Tape> Market<T> {
     // rest are enough.
     pub fn settle(&mut self, time: u64)
         requires { CanFollow T.Tape self.old time (settle_of time) }
-        ensures { Follows T.Tape self.old self.new (settle_of time) }
+        ensures follows { Follows T.Tape self.old self.new (settle_of time) }
+        ensures nothing_due { NothingDueAt time (market_of T.Tape self.new) }
     {
         // counted as in the rule book, whose settling has so many turns
         let turns = self.table.len_resting() + 2;

@@ -1,7 +1,7 @@
 ghost use Rattle.std.specs.Prelude.{◌^◌, ◌≡◌, ◌≤◌};
 ghost use Rattle.market.specs.Displays.{shares_there as shares_there_of};
-ghost use Rattle.market.specs.Rows.{orders_in, row_order};
-ghost use Rattle.market.specs.Seen.{seen};
+ghost use Rattle.market.specs.Rows.{row_order};
+ghost use Rattle.market.specs.Seen.{orders_of, seen};
 ghost use Rattle.rules.specs.Sweep.{best_displayed, displayed_shares as displayed_shares_of};
 
 use crate::priority::outranks;
@@ -12,7 +12,7 @@ use terms::Side;
 impl Table {
     // No displayed order of the side ranks better than the price.
     pub(crate) fn is_best_displayed(&self, side: Side, price: u32) -> bool
-        ensures { result ≡ best_displayed (seen self.now) side price (orders_in self.now.rows.items) }
+        ensures { result ≡ best_displayed (seen self.now) side price (orders_of self.now) }
     {
         self.rows.iter().filter(|row| row.rests()).all(|row| !(row.shows(side)
             && outranks(side, self.ranked(row), price)))
@@ -32,7 +32,7 @@ impl Table {
 
     // The displayed shares of the side at the price.
     pub(crate) fn displayed_shares(&self, side: Side, price: u32) -> u64
-        ensures { result ≡ displayed_shares_of (seen self.now) side price (orders_in self.now.rows.items) }
+        ensures { result ≡ displayed_shares_of (seen self.now) side price (orders_of self.now) }
     {
         self.rows
             .iter()

@@ -1,7 +1,6 @@
 ghost use Rattle.std.specs.Prelude.{List, ◌≡◌};
 ghost use Rattle.market.specs.Meant.{figures_as};
-ghost use Rattle.market.specs.Rows.{orders_in};
-ghost use Rattle.market.specs.Seen.{market_with};
+ghost use Rattle.market.specs.Seen.{market_with, orders_of};
 ghost use Rattle.rules.specs.Questions.{closing, count_on, shares_on};
 ghost use Rattle.tape.specs.declared.line.Line.{Line};
 
@@ -20,7 +19,7 @@ pub struct Tally {
 pub type Figures = PerSide<Tally>;
 
 pub fn figures_of(table: &Table) -> Figures
-    ensures { (tape : List Line) → figures_as result ≡ closing (market_with tape table.now) }
+    ensures { (lines : List Line) → figures_as result ≡ closing (market_with lines table.now) }
 {
     PerSide {
         buy: Tally::of(table, Side::Buy),
@@ -29,10 +28,10 @@ pub fn figures_of(table: &Table) -> Figures
 }
 
 impl Tally {
-    // At most 65 rows stand, so the sum fits.
+    // No more rows stand than `MOST_ROWS`, so the sum fits.
     fn of(table: &Table, side: Side) -> Tally
-        ensures orders { result.orders ≡ count_on side (orders_in table.now.rows.items) }
-        ensures shares { result.shares ≡ shares_on side (orders_in table.now.rows.items) }
+        ensures orders { result.orders ≡ count_on side (orders_of table.now) }
+        ensures shares { result.shares ≡ shares_on side (orders_of table.now) }
     {
         let rows = table.rows();
         Tally {

@@ -1,7 +1,7 @@
 ghost use Rattle.std.specs.Option.{option_map};
 ghost use Rattle.std.specs.Prelude.{◌≡◌};
-ghost use Rattle.market.specs.Rows.{orders_in, row_order};
-ghost use Rattle.market.specs.Seen.{seen};
+ghost use Rattle.market.specs.Rows.{row_order};
+ghost use Rattle.market.specs.Seen.{orders_of, seen};
 ghost use Rattle.rules.specs.Priority.{ahead as ahead_of, class_number, is_partner as is_partner_of, line_class as line_class_of, line_price as line_price_of, next_partner as next_partner_of, partner_for as partner_for_of};
 ghost use Rattle.terms.specs.Sides.{meets as meets_of, opposite as opposite_of, outranks as outranks_of};
 
@@ -89,7 +89,7 @@ impl Table {
 
     // The next partner of the side for a taker at the price.
     pub(crate) fn next_partner(&self, side: Side, price: u32) -> Option<Row>
-        ensures { option_map row_order result ≡ next_partner_of (seen self.now) side price (orders_in self.now.rows.items) }
+        ensures { option_map row_order result ≡ next_partner_of (seen self.now) side price (orders_of self.now) }
     {
         self.rows
             .iter()

@@ -2,8 +2,8 @@ ghost use Rattle.std.specs.Option.{option_map};
 ghost use Rattle.std.specs.Prelude.{List, ◌&&◌, ◌≡◌};
 ghost use Rattle.market.specs.Meant.{standing_as};
 ghost use Rattle.market.specs.Ranks.{NextRanked, comes_after as comes_after_of};
-ghost use Rattle.market.specs.Rows.{orders_in, rests, row_order};
-ghost use Rattle.market.specs.Seen.{market_with, seen};
+ghost use Rattle.market.specs.Rows.{rests, row_order};
+ghost use Rattle.market.specs.Seen.{market_with, orders_of, seen};
 ghost use Rattle.rules.specs.Market.{ranked_in};
 ghost use Rattle.rules.specs.Priority.{class_number, class_of};
 ghost use Rattle.rules.specs.Questions.{Answered, at_place, ranking_of, ranks_before as ranks_before_of};
@@ -34,7 +34,7 @@ pub struct Standing {
 // The side is told by its code, 1 buy and 2 sell, and the best ranked order stands at place 1. None for any other code, and
 // for place 0 or one past the last.
 pub fn ask(table: &Table, code: u8, place: usize) -> Option<Standing>
-    ensures { (tape : List Line) → Answered (market_with tape table.now) code place (option_map standing_as result) }
+    ensures { (lines : List Line) → Answered (market_with lines table.now) code place (option_map standing_as result) }
 {
     let side = Side::try_from(code).ok()?;
     let row = Ranking { table, side }.at(place)?;
@@ -81,7 +81,7 @@ impl Ranking<'_> {
 
     // The row that is ranked next after the one that is told; the best ranked of the side, where none is told.
     fn next_after(&self, told: Option<Row>) -> Option<Row>
-        ensures { NextRanked (seen self.now.table.now) self.now.side (option_map row_order told) (orders_in self.now.table.now.rows.items) (option_map row_order result) }
+        ensures { NextRanked (seen self.now.table.now) self.now.side (option_map row_order told) (orders_of self.now.table.now) (option_map row_order result) }
     {
         self.table
             .rows()
@@ -97,7 +97,7 @@ impl Ranking<'_> {
 
     // The row at a place, the best ranked at 1. Ends where no row is next, however high the place.
     pub(crate) fn at(&self, place: usize) -> Option<Row>
-        ensures { option_map row_order result ≡ at_place place (ranking_of (seen self.now.table.now) self.now.side (orders_in self.now.table.now.rows.items)) }
+        ensures { option_map row_order result ≡ at_place place (ranking_of (seen self.now.table.now) self.now.side (orders_of self.now.table.now)) }
     {
         let mut row = None;
         // each is found from the one that is ranked before it

@@ -4,8 +4,10 @@ ghost use Rattle.market.specs.Joining.{CanJoin};
 ghost use Rattle.market.specs.Markets.{CanFollow, Follows, capacity_of, market_of};
 ghost use Rattle.market.specs.Rounds.{swept_at, woken};
 ghost use Rattle.market.specs.Rows.{row_order};
+ghost use Rattle.market.specs.Seen.{rows_of};
 ghost use Rattle.rules.specs.Calls.{swept_in};
-ghost use Rattle.rules.specs.Market.{those};
+ghost use Rattle.rules.specs.Finished.{FilledOrAlone};
+ghost use Rattle.rules.specs.Market.{reach_in, those};
 ghost use Rattle.rules.specs.Sweep.{sweep as sweep_of, sweep_each as sweep_each_of, trade as trade_of};
 
 use crate::market::Market;
@@ -32,11 +34,12 @@ impl<T: Tape> Market<T> {
         self.tape.write(line).unwrap();
     }
 
-    // The order as taker at the time, at its present reach. One that rests no more is passed over. Each line ends an order, so as many
-    // turns as orders rest are enough.
+    // The order as taker at the time, at its present reach, until it is filled or finds no partner. One that rests no more is passed
+    // over. Each line ends an order, so as many turns as orders rest are enough.
     pub(crate) fn sweep(&mut self, time: u64, taker: &Row)
         requires { CanFollow T.Tape self.old time (sweep_of time (row_order taker.now)) }
-        ensures { Follows T.Tape self.old self.new (sweep_of time (row_order taker.now)) }
+        ensures follows { Follows T.Tape self.old self.new (sweep_of time (row_order taker.now)) }
+        ensures finished { FilledOrAlone (row_order taker.now) (reach_in (market_of T.Tape self.old) (row_order taker.now)) (market_of T.Tape self.new) }
     {
         let price = self.table.reach(taker);
         // counted as in the rule book, whose sweep has so many turns
@@ -54,8 +57,8 @@ impl<T: Tape> Market<T> {
 
     // The row at an index is swept if the round wakes it.
     fn sweep_row(&mut self, time: u64, round: Round, index: usize)
-        requires { CanFollow T.Tape self.old time (swept_at round time index self.old.table.rows.items) }
-        ensures { Follows T.Tape self.old self.new (swept_at round time index self.old.table.rows.items) }
+        requires { CanFollow T.Tape self.old time (swept_at round time index (rows_of self.old.table)) }
+        ensures { Follows T.Tape self.old self.new (swept_at round time index (rows_of self.old.table)) }
     {
         let Some(row) = self.table.row_at(index) else {
             return;
@@ -67,8 +70,8 @@ impl<T: Tape> Market<T> {
 
     // Every order that the round wakes is swept, as they rest when it begins; one that has left before its turn is swept in vain.
     pub(crate) fn sweep_each(&mut self, time: u64, round: Round)
-        requires { CanFollow T.Tape self.old time (λ m. sweep_each_of time (those (woken round) m.orders) m) }
-        ensures { Follows T.Tape self.old self.new (λ m. sweep_each_of time (those (woken round) m.orders) m) }
+        requires { CanFollow T.Tape self.old time (λ market. sweep_each_of time (those (woken round) market.orders) market) }
+        ensures { Follows T.Tape self.old self.new (λ market. sweep_each_of time (those (woken round) market.orders) market) }
     {
         // by index, since each sweep changes rows
         let rows = self.table.len();
@@ -77,13 +80,14 @@ impl<T: Tape> Market<T> {
         }
     }
 
-    // The order joins those that rest, and is swept. Its row stays, also with no shares left.
+    // The order joins those that rest, and is swept, until it is filled or finds no partner. Its row stays, also with no shares left.
     pub fn sweep_in(&mut self, time: u64, row: Row)
-        requires joins { CanJoin self.old.table.rows.items row }
+        requires joins { CanJoin (rows_of self.old.table) row }
         requires follows { CanFollow T.Tape self.old time (swept_in time (row_order row)) }
         ensures market { market_of T.Tape self.new ≡ swept_in time (row_order row) (market_of T.Tape self.old) }
+        ensures finished { FilledOrAlone (row_order row) (reach_in (market_of T.Tape self.old) (row_order row)) (market_of T.Tape self.new) }
         ensures capacity { capacity_of T.Tape self.new ≡ capacity_of T.Tape self.old }
-        ensures rows { SameButShares (self.old.table.rows.items ++ (row ∷ [])) self.new.table.rows.items }
+        ensures rows { SameButShares (rows_of self.old.table ++ (row ∷ [])) (rows_of self.new.table) }
     {
         self.table.join(row);
         self.sweep(time, &row);

@@ -1,6 +1,6 @@
 // The order table, with what the prices of its orders depend on.
 ghost use Rattle.std.specs.Prelude.{true, vec_capacity, vec_len, ◌≡◌, ◌≤◌};
-ghost use Rattle.market.specs.Rows.{rising};
+ghost use Rattle.market.specs.Rows.{most_rows, rising};
 
 use crate::row::Row;
 use rules::MOST_RESTING;
@@ -14,8 +14,8 @@ pub struct Table {
     pub(crate) rows: Vec<Row>,
     pub(crate) quote: Quote,
     pub(crate) ends: PerSide<Option<u64>>,
-    ghost room: { 65 ≤ vec_capacity rows },
-    ghost few: { vec_len rows ≤ 65 },
+    ghost room: { most_rows ≤ vec_capacity rows },
+    ghost few: { vec_len rows ≤ most_rows },
     ghost ascending: { rising 0 rows.items ≡ true },
 }
 
@@ -27,15 +27,15 @@ impl Table {
     ghost use Rattle.std.specs.Prelude.{IfOk, IsOk, MatchOption, None, OnErr, [], if◌then◌else◌, is_ok, length, nat_lt, slice_index_or, take, ◌&&◌, ◌++◌, ◌+◌, ◌-◌, ◌<◌, ◌↔◌, ◌∷◌};
     ghost use Rattle.market.specs.Changes.{AllRest, FirstSpent, OnlySharesOf, RestsAt, Retired, newest_number};
     ghost use Rattle.market.specs.Joining.{CanJoin};
-    ghost use Rattle.market.specs.Rows.{orders_in, row_order};
-    ghost use Rattle.market.specs.Seen.{Becomes, seen};
+    ghost use Rattle.market.specs.Rows.{row_order};
+    ghost use Rattle.market.specs.Seen.{Becomes, orders_of, quote_of, rows_of, seen};
     ghost use Rattle.rules.specs.Calls.{joined};
     ghost use Rattle.rules.specs.Market.{end_of, lower, period_runs as period_runs_of, ranked_in, reach_in, resting, with_end, with_orders, with_quote, without};
     ghost use Rattle.rules.specs.Runs.{opened};
 
     // An empty table, with room for all rows that it will ever hold. Fails only for want of memory.
     pub fn open(heap: Global, quote: Quote) -> Result<Table, AllocError>
-        ensures { IfOk result (λ t. (t.rows.items ≡ []) × (t.quote ≡ quote) × (seen t ≡ (opened quote.bid quote.offer).market)) }
+        ensures { IfOk result (λ table. (rows_of table ≡ []) × (quote_of table ≡ quote) × (seen table ≡ (opened quote.bid quote.offer).market)) }
     {
         let rows = Vec::with_capacity(heap, MOST_ROWS)?;
         Ok(Table {
@@ -49,7 +49,7 @@ impl Table {
     }
 
     pub(crate) fn set_quote(&mut self, quote: Quote)
-        ensures quote { self.new.quote ≡ quote }
+        ensures quote { quote_of self.new ≡ quote }
         ensures market { Becomes self.old self.new (with_quote quote.bid quote.offer) }
         ensures rows { self.new.rows ≡ self.old.rows }
     {
@@ -65,7 +65,7 @@ impl Table {
     }
 
     pub(crate) fn quote(&self) -> Quote
-        ensures { result ≡ self.now.quote }
+        ensures { result ≡ quote_of self.now }
     {
         self.quote
     }
@@ -100,21 +100,21 @@ impl Table {
 
     // How many rows stand, with shares left or without.
     pub(crate) fn len(&self) -> usize
-        ensures { result ≡ length self.now.rows.items }
+        ensures { result ≡ length (rows_of self.now) }
     {
         self.rows.len()
     }
 
     // All rows, with shares left or without.
     pub fn rows(&self) -> &[Row]
-        ensures { result.now ≡ self.now.rows.items }
+        ensures { result.now ≡ rows_of self.now }
     {
         &self.rows
     }
 
     // The row at an index, from 0.
     pub(crate) fn row_at(&self, index: usize) -> Option<Row>
-        ensures { MatchOption result (length self.now.rows.items ≤ index) (λ row. (index < length self.now.rows.items) × (row ≡ slice_index_or self.now.rows.items index row)) }
+        ensures { MatchOption result (length (rows_of self.now) ≤ index) (λ row. (index < length (rows_of self.now)) × (row ≡ slice_index_or (rows_of self.now) index row)) }
     {
         self.rows.get(index).copied()
     }
@@ -122,8 +122,8 @@ impl Table {
     // The index of the resting row with that entry number.
     pub(crate) fn index_of(&self, number: u32) -> Option<usize>
         ensures { MatchOption result
-            (resting number (orders_in self.now.rows.items) ≡ None)
-            (λ i. RestsAt self.now.rows.items number i) }
+            (resting number (orders_of self.now) ≡ None)
+            (λ index. RestsAt (rows_of self.now) number index) }
     {
         self.rows
             .iter()
@@ -132,7 +132,7 @@ impl Table {
 
     // The resting row with that entry number.
     pub fn row(&self, number: u32) -> Option<Row>
-        ensures { option_map row_order result ≡ resting number (orders_in self.now.rows.items) }
+        ensures { option_map row_order result ≡ resting number (orders_of self.now) }
     {
         let i = self.index_of(number)?;
         Some(self.rows[i])
@@ -140,15 +140,15 @@ impl Table {
 
     // How many orders rest.
     pub fn len_resting(&self) -> usize
-        ensures { result ≡ length (orders_in self.now.rows.items) }
+        ensures { result ≡ length (orders_of self.now) }
     {
         self.rows.iter().filter(|row| row.rests()).count()
     }
 
     // Adds a row behind the others.
     pub(crate) fn join(&mut self, row: Row)
-        requires { CanJoin self.old.rows.items row }
-        ensures rows { self.new.rows.items ≡ self.old.rows.items ++ (row ∷ []) }
+        requires { CanJoin (rows_of self.old) row }
+        ensures rows { rows_of self.new ≡ rows_of self.old ++ (row ∷ []) }
         ensures market { Becomes self.old self.new (joined (row_order row)) }
     {
         self.rows.push_reserved(row);
@@ -156,17 +156,17 @@ impl Table {
 
     // Drops the newest row, whether it rests or not; an empty table stays as it is.
     pub fn drop_newest(&mut self)
-        ensures rows { self.new.rows.items ≡ take (length self.old.rows.items - 1) self.old.rows.items }
-        ensures market { Becomes self.old self.new (λ m. with_orders (without (newest_number 0 self.old.rows.items) m.orders) m) }
+        ensures rows { rows_of self.new ≡ take (length (rows_of self.old) - 1) (rows_of self.old) }
+        ensures market { Becomes self.old self.new (λ market. with_orders (without (newest_number 0 (rows_of self.old)) market.orders) market) }
     {
         self.rows.pop();
     }
 
     // The resting order with that entry number has no shares left, so that it rests no more.
     pub fn leave(&mut self, number: u32)
-        ensures orders { orders_in self.new.rows.items ≡ without number (orders_in self.old.rows.items) }
-        ensures market { Becomes self.old self.new (λ m. with_orders (without number m.orders) m) }
-        ensures rows { OnlySharesOf number self.old.rows.items self.new.rows.items }
+        ensures orders { orders_of self.new ≡ without number (orders_of self.old) }
+        ensures market { Becomes self.old self.new (λ market. with_orders (without number market.orders) market) }
+        ensures rows { OnlySharesOf number (rows_of self.old) (rows_of self.new) }
     {
         if let Some(i) = self.index_of(number) {
             let row = &mut self.rows[i];
@@ -176,9 +176,9 @@ impl Table {
 
     // Lowers the resting order with that entry number; with no shares left it rests no more. No other row is touched.
     pub(crate) fn lower(&mut self, number: u32, shares: u32)
-        ensures orders { orders_in self.new.rows.items ≡ lower number shares (orders_in self.old.rows.items) }
-        ensures market { Becomes self.old self.new (λ m. with_orders (lower number shares m.orders) m) }
-        ensures rows { OnlySharesOf number self.old.rows.items self.new.rows.items }
+        ensures orders { orders_of self.new ≡ lower number shares (orders_of self.old) }
+        ensures market { Becomes self.old self.new (λ market. with_orders (lower number shares market.orders) market) }
+        ensures rows { OnlySharesOf number (rows_of self.old) (rows_of self.new) }
     {
         if let Some(i) = self.index_of(number) {
             let row = &mut self.rows[i];
@@ -188,19 +188,19 @@ impl Table {
 
     // The index of the first row that rests no more.
     fn first_spent(&self) -> Option<usize>
-        ensures { MatchOption result (AllRest self.now.rows.items) (λ i. FirstSpent self.now.rows.items i) }
+        ensures { MatchOption result (AllRest (rows_of self.now)) (λ index. FirstSpent (rows_of self.now) index) }
     {
         self.rows.iter().position(|row| !row.rests())
     }
 
     // Drops the first row that rests no more and tells its identifier; where every row rests, nothing changes.
     pub fn retire(&mut self) -> Option<Identifier>
-        ensures orders { orders_in self.new.rows.items ≡ orders_in self.old.rows.items }
-        ensures market { Becomes self.old self.new (λ m. m) }
+        ensures orders { orders_of self.new ≡ orders_of self.old }
+        ensures market { Becomes self.old self.new (λ market. market) }
         ensures told { MatchOption result
-            ((self.new ≡ self.old) × AllRest self.old.rows.items)
-            (λ id. Retired self.old.rows.items self.new.rows.items id) }
-        ensures count { MatchOption result (vec_len self.new.rows ≡ vec_len self.old.rows) (λ _. vec_len self.new.rows + 1 ≡ vec_len self.old.rows) }
+            ((self.new ≡ self.old) × AllRest (rows_of self.old))
+            (λ identifier. Retired (rows_of self.old) (rows_of self.new) identifier) }
+        ensures count { MatchOption result (length (rows_of self.new) ≡ length (rows_of self.old)) (λ _. length (rows_of self.new) + 1 ≡ length (rows_of self.old)) }
     {
         let i = self.first_spent()?;
         let row = self.rows.remove(i);

@@ -1,7 +1,7 @@
 ghost use Rattle.std.specs.Prelude.{List, [], ◌&&◌, ◌++◌, ◌∷◌, ◌≡◌, ◌≤◌};
 ghost use Rattle.market.specs.Changes.{SameButShares};
 ghost use Rattle.market.specs.Rows.{row_order};
-ghost use Rattle.market.specs.Seen.{Becomes, market_with, seen};
+ghost use Rattle.market.specs.Seen.{Becomes, market_with, rows_of, seen};
 ghost use Rattle.market.specs.Trading.{mark_if, protected_if};
 ghost use Rattle.rules.specs.Limits.{last_moment};
 ghost use Rattle.rules.specs.Market.{lower, with_orders};
@@ -28,8 +28,8 @@ impl Table {
     // Lowers the partner of a line, and tells whether that depletes its side's best display.
     fn lower_partner(&mut self, partner: &Row, shares: u32) -> bool
         ensures depletes { result ≡ depletes_of (seen self.old) (row_order partner.now) (lower partner.now.number shares (seen self.old).orders) }
-        ensures market { Becomes self.old self.new (λ m. with_orders (lower partner.now.number shares m.orders) m) }
-        ensures rows { SameButShares self.old.rows.items self.new.rows.items }
+        ensures market { Becomes self.old self.new (λ market. with_orders (lower partner.now.number shares market.orders) market) }
+        ensures rows { SameButShares (rows_of self.old) (rows_of self.new) }
     {
         let side = partner.terms.side;
         let ranked = self.ranked(partner);
@@ -43,7 +43,7 @@ impl Table {
         requires { time ≤ last_moment }
         ensures mark { result ≡ mark_if depletes side }
         ensures market { Becomes self.old self.new (protected_if depletes time side) }
-        ensures rows { SameButShares self.old.rows.items self.new.rows.items }
+        ensures rows { SameButShares (rows_of self.old) (rows_of self.new) }
     {
         if !depletes {
             return Mark::Nothing;
@@ -55,8 +55,8 @@ impl Table {
     // One line at the time, for a taker at the price; the line is handed back for the tape.
     pub(crate) fn trade(&mut self, time: u64, price: u32, taker: &Row, partner: &Row) -> Line
         requires { time ≤ last_moment }
-        ensures market { (tape : List TradeLine) → market_with (tape ++ (result ∷ [])) self.new ≡ trade_of time price (row_order taker.now) (row_order partner.now) (market_with tape self.old) }
-        ensures rows { SameButShares self.old.rows.items self.new.rows.items }
+        ensures market { (lines : List TradeLine) → market_with (lines ++ (result ∷ [])) self.new ≡ trade_of time price (row_order taker.now) (row_order partner.now) (market_with lines self.old) }
+        ensures rows { SameButShares (rows_of self.old) (rows_of self.new) }
     {
         let shares = partner.left.min(taker.left);
         let line_price = self.line_price(price, partner);

@@ -6,7 +6,7 @@ use Rattle.book.proofs.engine.Engine.bring_to.Goals as goal
 
 pub returns-clause-book : goal.returns-clause-book
 unfolding at_time
-returns-clause-book g c = same_book (c.tidy.ensures.market ∙ c.settle.ensures.market) refl c.tidy.ensures.entries
+returns-clause-book g c = same_book (c.tidy.ensures.market ∙ c.settle.ensures.follows.market) refl c.tidy.ensures.entries
 
 pub returns-clause-tidied : goal.returns-clause-tidied
 returns-clause-tidied g c =
@@ -15,7 +15,7 @@ returns-clause-tidied g c =
     record {
       tied = λ tied.
           c.tidy.ensures.tidied.tied
-          (tied_kept (d.number here.directory) (d.count here.directory) (vec_items here.market.table.rows) (vec_items c.settle.new.self.table.rows) c.settle.ensures.rows tied);
+          (tied_kept (d.number here.directory) (d.count here.directory) (vec_items here.market.table.rows) (vec_items c.settle.new.self.table.rows) c.settle.ensures.follows.rows tied);
       rests = c.tidy.ensures.tidied.rests;
-      capacity = c.tidy.ensures.tidied.capacity ∙ c.settle.ensures.capacity;
+      capacity = c.tidy.ensures.tidied.capacity ∙ c.settle.ensures.follows.capacity;
     }

@@ -1,5 +1,6 @@
-use Rattle.std.proofs.Common.{◌≡◌, vec_len}
+use Rattle.std.proofs.Common.{◌≡◌, length}
 use Rattle.market.specs.Markets.{market_of}
+use Rattle.market.specs.Seen.{rows_of}
 use Rattle.book.specs.Running.{BookTied}
 use Rattle.book.proofs.engine.Engine.tidy.Given as goal
 
@@ -12,4 +13,4 @@ invariant-loop-identifier g l =
     × (l.self.entries ≡ l.initial.self.entries)
 
 abbrev pub decreases-loop-identifier : goal.decreases-loop-identifier
-decreases-loop-identifier g l = vec_len l.self.market.table.rows
+decreases-loop-identifier g l = length (rows_of l.self.market.table)

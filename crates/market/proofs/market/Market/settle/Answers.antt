@@ -4,6 +4,7 @@ use Rattle.rules.proofs.Settle.{due_is, ends_none, ends_some}
 use Rattle.market.proofs.Found.{resting_few}
 use Rattle.market.specs.Markets.{market_of, capacity_of}
 use Rattle.market.proofs.Settled.{settle_ends, end_free, ends_over}
+use Rattle.market.proofs.Ended.{settle_ended}
 use Rattle.market.proofs.Underway.{arrived}
 use Rattle.market.proofs.market.Market.settle.Goals as goal
 use Rattle.market.proofs.market.Market.settle.Goals.{In-Some}
@@ -48,9 +49,13 @@ loop-preserved g c =
 pub returns-in_default : goal.returns-in_default
 returns-in_default g c =
     let e = settle_ends c.args.time (c.len_resting-turns.result + 2) (market_of g.T.Tape c.args.self.now) (ap (λ n. n + 2) c.len_resting-turns.ensures) in
-    arrived g.T.Tape c.args.self.now c.loop.self (settle c.args.time) _ _ e c.loop.invariant (λ so. so ∙ ends_none _ c.args.time (market_of g.T.Tape c.loop.self) (sym c.in_default.ensures))
+    let follows =
+    arrived g.T.Tape c.args.self.now c.loop.self (settle c.args.time) _ _ e c.loop.invariant (λ so. so ∙ ends_none _ c.args.time (market_of g.T.Tape c.loop.self) (sym c.in_default.ensures)) in
+    record { follows = follows; nothing_due = settle_ended g.T.Tape c.args.self.now c.loop.self c.args.time follows }
 
 pub returns : goal.returns
 returns g c =
     let e = settle_ends c.args.time (c.len_resting-turns.result + 2) (market_of g.T.Tape c.args.self.now) (ap (λ n. n + 2) c.len_resting-turns.ensures) in
-    arrived g.T.Tape c.args.self.now c.loop.self (settle c.args.time) _ _ e c.loop.invariant (λ so. so ∙ ends_over _ c.args.time (market_of g.T.Tape c.loop.self) (omega (arith, c.loop-test.false)))
+    let follows =
+    arrived g.T.Tape c.args.self.now c.loop.self (settle c.args.time) _ _ e c.loop.invariant (λ so. so ∙ ends_over _ c.args.time (market_of g.T.Tape c.loop.self) (omega (arith, c.loop-test.false))) in
+    record { follows = follows; nothing_due = settle_ended g.T.Tape c.args.self.now c.loop.self c.args.time follows }

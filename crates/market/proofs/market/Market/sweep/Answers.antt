@@ -5,6 +5,7 @@ use Rattle.rules.specs.Market.{Market}
 use Rattle.market.specs.Rows.{row_order}
 use Rattle.market.specs.Markets.{market_of, capacity_of}
 use Rattle.market.proofs.Lined.{partner_still, sweep_lines, lines_none, lines_gone, lines_alone, lines_go, line_room}
+use Rattle.market.proofs.Ended.{sweep_ended}
 use Rattle.market.proofs.Underway.{arrived}
 use Rattle.market.proofs.market.Market.sweep.Goals as goal
 use Rattle.market.proofs.market.Market.sweep.Goals.{In-Some-partner_for}
@@ -45,17 +46,23 @@ pub returns-in_default : goal.returns-in_default
 returns-in_default g c =
     let o = row_order c.args.taker.now in
     let e = sweep_lines (g.T.Tape.lines c.args.self.now.tape) c.args.self.now.table c.args.time o c.len_resting-turns.result c.reach-price.result c.len_resting-turns.ensures c.reach-price.ensures in
-    arrived g.T.Tape c.args.self.now c.loop.self (sweep c.args.time o) _ _ e c.loop.invariant (λ so. so ∙ lines_gone c.args.time c.reach-price.result o _ (market_of g.T.Tape c.loop.self) (sym c.in_default.ensures))
+    let follows =
+    arrived g.T.Tape c.args.self.now c.loop.self (sweep c.args.time o) _ _ e c.loop.invariant (λ so. so ∙ lines_gone c.args.time c.reach-price.result o _ (market_of g.T.Tape c.loop.self) (sym c.in_default.ensures)) in
+    record { follows = follows; finished = sweep_ended g.T.Tape c.args.self.now c.loop.self c.args.time o follows }
 
 pub returns-in_default-partner_for : goal.returns-in_default-partner_for
 returns-in_default-partner_for g c =
     let o = row_order c.args.taker.now in
     let e = sweep_lines (g.T.Tape.lines c.args.self.now.tape) c.args.self.now.table c.args.time o c.len_resting-turns.result c.reach-price.result c.len_resting-turns.ensures c.reach-price.ensures in
+    let follows =
     arrived g.T.Tape c.args.self.now c.loop.self (sweep c.args.time o) _ _ e c.loop.invariant (λ so. so ∙ lines_alone c.args.time c.reach-price.result o _ (market_of g.T.Tape c.loop.self) (row_order c.in-Some.row) (sym c.in-Some.ensures)
-    (sym (c.in_default-partner_for.ensures ∙ partner_still (g.T.Tape.lines c.loop.self.tape) c.loop.self.table o c.reach-price.result)))
+    (sym (c.in_default-partner_for.ensures ∙ partner_still (g.T.Tape.lines c.loop.self.tape) c.loop.self.table o c.reach-price.result))) in
+    record { follows = follows; finished = sweep_ended g.T.Tape c.args.self.now c.loop.self c.args.time o follows }
 
 pub returns : goal.returns
 returns g c =
     let o = row_order c.args.taker.now in
     let e = sweep_lines (g.T.Tape.lines c.args.self.now.tape) c.args.self.now.table c.args.time o c.len_resting-turns.result c.reach-price.result c.len_resting-turns.ensures c.reach-price.ensures in
-    arrived g.T.Tape c.args.self.now c.loop.self (sweep c.args.time o) _ _ e c.loop.invariant (λ so. so ∙ lines_none c.args.time c.reach-price.result o _ (market_of g.T.Tape c.loop.self) (omega (arith, c.loop-test.false)))
+    let follows =
+    arrived g.T.Tape c.args.self.now c.loop.self (sweep c.args.time o) _ _ e c.loop.invariant (λ so. so ∙ lines_none c.args.time c.reach-price.result o _ (market_of g.T.Tape c.loop.self) (omega (arith, c.loop-test.false))) in
+    record { follows = follows; finished = sweep_ended g.T.Tape c.args.self.now c.loop.self c.args.time o follows }

@@ -5,7 +5,7 @@ use Rattle.rules.specs.Market.{ranked_in}
 use Rattle.rules.specs.Sweep.{displayed_shares, shows}
 use Rattle.market.specs.declared.row.Row.{Row}
 use Rattle.market.specs.Displays.{shares_there}
-use Rattle.market.specs.Rows.{row_order}
+use Rattle.market.specs.Rows.{most_rows, row_order}
 use Rattle.market.specs.Seen.{seen}
 use Rattle.market.proofs.Folds.{sum_resting, none_of, few_shares}
 use Rattle.market.proofs.table.Table.displayed_shares.Goals as goal
@@ -15,7 +15,7 @@ pub sum-requires-clause-fits : goal.sum-requires-clause-fits
 sum-requires-clause-fits c =
     let rs = vec_items c.args.self.now.rows in
     let m = seen c.args.self.now in
-    let few : length rs ≤ 65 = omega (arith, c.args.self.now.rows.ok.0, c.args.self.now.few) in
+    let few : length rs ≤ most_rows = omega (arith, c.args.self.now.rows.ok.0, c.args.self.now.few) in
     let h : Row → ℕ = λ r. min (shares_there m c.args.side c.args.price (row_order r)) (2 ^ 32) in
     fits_by_from_yields_list h rs c.map.result (2 ^ 64)
     (YieldsList-from_map _ h (YieldsList-from_slice rs (cc)) c.map.ensures.closure (λ x r q called. search (rules, tests)))
