@@ -17,6 +17,7 @@ pub mod Calm
 pub mod Apart
 pub mod Uncrossed
 pub mod Finished
+pub mod Trades
 pub mod Count
 pub mod Refusals
 pub mod Numbers

@@ -1,6 +1,6 @@
 -- After every run no resting order meets one of the other side. Each call sweeps all orders whose reach it made more
 -- aggressive: those that follow the quote, those that a period restrained, the one entered. The law is never_crossed.
--- Cite: Orderly, run_orderly, settle_orderly.
+-- Cite: Orderly, run_orderly, settle_orderly, end_orderly, orderly_lasts.
 use Rattle.std.proofs.Common.{◌≡◌, ℕ, ◌+◌, ◌<◌, ◌≤◌, Bool, true, false, eqb, ◌⊎◌, List, [], ◌∷◌, length, is_some, None, Option, sym, refl, ap, ◌∙◌, subst, inl, inr, arith}
 use Rattle.std.proofs.lemmas.Bool.{cases_Bool, and_cases, leb-false}
 use Rattle.terms.specs.Sides.{meets, same_side, opposite}
@@ -25,7 +25,7 @@ pub record Orderly (n : ℕ) (m : Market) : Type 0 where
   pub few : (x : Order) → In x m.orders → x.number ≤ n
   pub apart : ApartBut [] m
 
-those_from : (f : Order → Bool) (os : List Order) (x : Order) → In x (those f os) → In x os
+pub those_from : (f : Order → Bool) (os : List Order) (x : Order) → In x (those f os) → In x os
 unfolding those
 those_from f [] x = λ i. i
 those_from f (o ∷ os) x =
@@ -85,7 +85,7 @@ other_end Sell Buy e m h = refl
 other_end Buy Buy e m h = cc
 other_end Sell Sell e m h = cc
 
-end_orderly : (n : ℕ) (d : Side × ℕ) (m : Market) → Orderly n m → Orderly n (end_period d m)
+pub end_orderly : (n : ℕ) (d : Side × ℕ) (m : Market) → Orderly n m → Orderly n (end_period d m)
 unfolding end_period
 end_orderly n d m = sweep_those d.1 (protected_on d.0) n m (with_end d.0 None m) (same_orders d.0) (λ x e. as_it_was x (and_cases x.terms.qdp (same_side (side_of x) d.0) e))
   where
@@ -197,7 +197,7 @@ enter_orderly n t o m e g =
 abbrev pub OrderlyBook : Book → Type 0
 OrderlyBook b = Orderly b.entries b.market
 
-orderly_lasts : Lasts (λ t n m. Orderly n m)
+pub orderly_lasts : Lasts (λ t n m. Orderly n m)
 orderly_lasts =
     record {
       fewer = λ t n k m h. part_orderly n (without k m.orders) m (without_from k m.orders) h;

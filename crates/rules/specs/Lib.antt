@@ -10,6 +10,7 @@ pub mod Runs
 pub mod Growth
 pub mod Laws
 pub mod Finished
+pub mod Trades
 pub mod Examples
 pub mod PriorityRuns
 pub mod RefusalRuns

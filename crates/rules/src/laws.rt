@@ -1,5 +1,5 @@
 // Each carries a law on its contract; nothing calls them.
-ghost use Rattle.std.specs.Prelude.{nat_le, nat_lt, ◌≡◌};
+ghost use Rattle.std.specs.Prelude.{min, nat_le, nat_lt, ◌≡◌};
 ghost use Rattle.rules.specs.Examples.{AsTold, QuestionsAsTold, told_with_the_rules};
 ghost use Rattle.rules.specs.Finished.{NothingDue};
 ghost use Rattle.rules.specs.Growth.{TapeOnlyGrows};
@@ -7,6 +7,7 @@ ghost use Rattle.rules.specs.Laws.{EntriesCounted, NeverCrossed, NumberedInTurn,
 ghost use Rattle.rules.specs.Limits.{fewest_left, last_moment, most_entries, most_resting, protection_period, round_lot};
 ghost use Rattle.rules.specs.PriorityRuns.{told_of_priority};
 ghost use Rattle.rules.specs.RefusalRuns.{told_of_refusals};
+ghost use Rattle.rules.specs.Trades.{LinesTellTrades};
 
 use crate::limits::{
     FEWEST_LEFT, LAST_MOMENT, MOST_ENTRIES, MOST_RESTING, PROTECTION_PERIOD, ROUND_LOT,
@@ -70,6 +71,15 @@ pub fn lines_within_orders(resting: usize, free: usize) -> bool
     ensures grows { TapeOnlyGrows }
 {
     resting <= free
+}
+
+// How many shares a line tells, where so many are left of its taker and its partner. Each line of a tape tells the trade that
+// was due when it was made.
+pub fn lines_tell_trades(taker_left: u32, partner_left: u32) -> u32
+    ensures shares { result ≡ min partner_left taker_left }
+    ensures trades { LinesTellTrades }
+{
+    partner_left.min(taker_left)
 }
 
 // The highest entry number. Accepted entries have the numbers from 1 on, without a gap, and stand in the book in that order.
