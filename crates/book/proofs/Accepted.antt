@@ -6,7 +6,6 @@ use Rattle.std.proofs.lemmas.Bool.{leb-false}
 use Rattle.terms.specs.declared.time_in_force.TimeInForce.{TimeInForce}
 use Rattle.terms.specs.declared.time_in_force.TimeInForce.TheVariants.{Rest, ImmediateOrCancel}
 use Rattle.terms.specs.Terms.{OrderTerms, is_ioc}
-use Rattle.terms.specs.Identifiers.{lawful_identifier}
 use Rattle.tape.specs.declared.line.Line.{Line}
 use Rattle.tape.specs.declared.tape.Tape.{Ghosts as TapeOf}
 use Rattle.directory.specs.declared.directory.Directory.{Ghosts as DirectoryOf}
@@ -60,7 +59,7 @@ module _ {D T : Type 0} (d : DirectoryOf D) (t : TapeOf T) (b mid : Engine D T) 
   abbrev here : Book
   here = book_of t mid
 
-  module _ (sound : Sound d t b) (brought : Brought d t b mid time) (lawful : lawful_identifier id ≡ true) (test : Ok k ≡ entry_test id w here)
+  module _ (sound : Sound d t b) (brought : Brought d t b mid time) (test : Ok k ≡ entry_test id w here)
       (own : row_order r ≡ new_order id w k) where
     there : Sound d t mid
     there = (tick_carried d t b mid time (Ok tt) sound brought).sound
@@ -98,7 +97,7 @@ module _ {D T : Type 0} (d : DirectoryOf D) (t : TapeOf T) (b mid : Engine D T) 
           tied = brought.tied;
           rests = brought.rests;
           joins = record { free = few_rest; newest = omega (arith, newest_below, counted, number); some = omega (arith, some, left) };
-          lines = subst (λ (ls : List Line). length ls ≤ capacity_of t mid.market) tape (brought.lines (entry time id w) refl lawful);
+          lines = subst (λ (ls : List Line). length ls ≤ capacity_of t mid.market) tape (brought.lines (entry time id w) refl r.identifier.lawful);
         }
 
     pub has_place : w.time_in_force ≡ Rest → HasPlace d (counting k mid) r
@@ -108,7 +107,6 @@ module _ {D T : Type 0} (d : DirectoryOf D) (t : TapeOf T) (b mid : Engine D T) 
         few_by (leb most_resting (length here.market.orders)) (ap (λ f. leb most_resting (length here.market.orders) && not (is_ioc f)) (sym rests) ∙ free.place)
         in
         record {
-          lawful = lawful;
           fresh =
               none_by (d.number mid.directory id)
               (ap is_some (brought.tied.known id) ∙ name_test id (vec_items mid.market.table.rows) brought.rests mid.market.table.ascending ∙ free.name);
@@ -122,7 +120,7 @@ module _ {D T : Type 0} (d : DirectoryOf D) (t : TapeOf T) (b mid : Engine D T) 
         in
         let so = same ∙ sym (entry_passed time id w here k test) in
         let swept = swept_in time (new_order id w k) here.market in
-        carried_on d t b mid after (entry time id w) (entered v.0 v.1 v.2) sound brought lawful
+        carried_on d t b mid after (entry time id w) (entered v.0 v.1 v.2) sound brought r.identifier.lawful
         (done.answer ∙ ap (λ (o : Outcome). o.answer) so)
         (same_book (done.market ∙ ap (λ (o : Outcome). o.book.market) same)
         (done.clock ∙ brought.clock ∙ sym (rested_clock w.time_in_force time k w.shares swept))

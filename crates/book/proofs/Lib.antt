@@ -1,3 +1,4 @@
+mod Identified
 pub mod Accepted
 pub mod Alike
 pub mod Calling

@@ -1,17 +1,15 @@
 // What a book is made of: a directory, the market, the clock and the count of entries.
-ghost use Rattle.std.specs.Prelude.{MatchResult, false, true, ◌≡◌};
+ghost use Rattle.std.specs.Prelude.{◌≡◌};
 ghost use Rattle.book.specs.Running.{BookTied, Sound, book_of};
 ghost use Rattle.book.specs.Carried.{Begun, Carried, Tidied, cancel_answer, entry_answer, quote_answer, time_and_tape};
 ghost use Rattle.book.specs.Entering.{Entered, HasPlace, Ready, entry_test};
 ghost use Rattle.market.specs.Changes.{AllRest};
 ghost use Rattle.market.specs.Markets.{CanFollow, market_of};
-ghost use Rattle.market.specs.Rows.{identifier_bytes, row_order};
+ghost use Rattle.market.specs.Rows.{row_order};
 ghost use Rattle.market.specs.Seen.{rows_of};
 ghost use Rattle.rules.specs.Calls.{cancel as cancel_of, entry as entry_of, left_of, no_place, quote as quote_of, rested, swept_in};
 ghost use Rattle.rules.specs.Clock.{at_time, settle};
 ghost use Rattle.rules.specs.Market.{resting, with_orders, without};
-ghost use Rattle.rules.specs.declared.refusal.Refusal.TheVariants.{Identifier as RefusedIdentifier};
-ghost use Rattle.terms.specs.Identifiers.{lawful_identifier};
 ghost use Rattle.terms.specs.Made.{terms_of};
 ghost use Rattle.terms.specs.declared.time_in_force.TimeInForce.TheVariants.{ImmediateOrCancel, Rest};
 
@@ -19,7 +17,7 @@ use directory::Directory;
 use market::{Market, Row};
 use rules::{LAST_MOMENT, MOST_ENTRIES, MOST_RESTING, Refusal};
 use tape::Tape;
-use terms::{Identifier, Quote, Terms, TimeInForce, lawful_identifier};
+use terms::{Identifier, Quote, Terms, TimeInForce};
 
 // Between calls it is sound, as `Book` says; while a call runs it need not be.
 #[derive(Drop)]
@@ -141,7 +139,7 @@ impl<D: Directory, T: Tape> Engine<D, T> {
         requires { Sound D.Directory T.Tape self.old }
         ensures { Carried D.Directory T.Tape self.old self.new (entry_of time id.now (terms_of terms)) (entry_answer result) }
     {
-        let identifier = kept_identifier(id)?;
+        let identifier = Identifier::new(id).ok_or(Refusal::Identifier)?;
         self.advance(time)?;
         let number = self.admit(id, terms)?;
         self.entries = number;
@@ -182,12 +180,10 @@ impl<D: Directory, T: Tape> Engine<D, T> {
         requires { Sound D.Directory T.Tape self.old }
         ensures { Carried D.Directory T.Tape self.old self.new (cancel_of time id.now) (cancel_answer result) }
     {
-        if !lawful_identifier(id) {
-            return Err(Refusal::Identifier);
-        }
+        let identifier = Identifier::new(id).ok_or(Refusal::Identifier)?;
         self.advance(time)?;
         // Looked up once the clock is at the cancel's time, since the order may have left by then.
-        let Some(number) = self.directory.find(id) else {
+        let Some(number) = self.directory.find(identifier.as_bytes()) else {
             return Err(Refusal::NoSuchOrder);
         };
         Ok(self.take_out(number))
@@ -202,16 +198,4 @@ impl<D: Directory, T: Tape> Engine<D, T> {
         self.tidy();
         Ok(())
     }
-}
-
-// The identifier, kept by value, if it is lawful.
-pub(crate) fn kept_identifier(id: &[u8]) -> Result<Identifier, Refusal>
-    ensures { MatchResult result
-        (λ i. (lawful_identifier id.now ≡ true) × (identifier_bytes i ≡ id.now))
-        (λ why. (lawful_identifier id.now ≡ false) × (why ≡ RefusedIdentifier)) }
-{
-    if !lawful_identifier(id) {
-        return Err(Refusal::Identifier);
-    }
-    Identifier::new(id).ok_or(Refusal::Identifier)
 }

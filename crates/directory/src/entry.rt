@@ -1,4 +1,4 @@
-ghost use Rattle.std.specs.Prelude.{length, ◌≡◌, ◌≤◌};
+ghost use Rattle.std.specs.Prelude.{◌≡◌};
 ghost use Rattle.std.specs.Str.{bytes_eq};
 ghost use Rattle.directory.specs.Entries.{entry_id};
 
@@ -16,12 +16,4 @@ pub(crate) fn is_of(entry: &Entry, id: &[u8]) -> bool
     ensures { result ≡ bytes_eq id.now (entry_id entry.now) }
 {
     id == entry.id.as_bytes()
-}
-
-pub(crate) fn entry_of(id: &[u8], number: u32) -> Entry
-    requires { length id.now ≤ 20 }
-    ensures { (entry_id result ≡ id.now) × (result.number ≡ number) }
-{
-    let id = Identifier::new(id).unwrap();
-    Entry { id, number }
 }

@@ -3,10 +3,10 @@ ghost use Rattle.directory.specs.Entries.{distinct};
 ghost use Rattle.directory.specs.Table.{Chained, entries_in};
 
 use crate::directory::{CAPACITY, Directory, PutRefusal};
-use crate::entry::{Entry, entry_of, is_of};
+use crate::entry::{Entry, is_of};
 use crate::probing::{close_gap, home_place};
 use std::alloc::{AllocError, Global};
-use terms::lawful_identifier;
+use terms::Identifier;
 
 pub(crate) const PLACES: usize = 128;
 
@@ -88,16 +88,19 @@ impl Directory for HashedDirectory {
 
     // The trait fixes the tests and their order; each make tests in its own way.
     fn put(&mut self, id: &[u8], entry: u32) -> Result<(), PutRefusal> {
-        if !lawful_identifier(id) {
+        let Some(identifier) = Identifier::new(id) else {
             return Err(PutRefusal::Unlawful);
-        }
+        };
         let Spot::Free { place } = self.look(id) else {
             return Err(PutRefusal::Held);
         };
         if self.held >= CAPACITY {
             return Err(PutRefusal::Full);
         }
-        self.places[place] = Some(entry_of(id, entry));
+        self.places[place] = Some(Entry {
+            id: identifier,
+            number: entry,
+        });
         self.held += 1;
         Ok(())
     }

@@ -3,10 +3,10 @@ ghost use Rattle.std.specs.Str.{bytes_eq};
 ghost use Rattle.directory.specs.Entries.{entry_id, number_in};
 
 use crate::directory::{CAPACITY, Directory, PutRefusal};
-use crate::entry::{Entry, entry_of, is_of};
+use crate::entry::{Entry, is_of};
 use std::alloc::{AllocError, Global};
 use std::marker::Model;
-use terms::lawful_identifier;
+use terms::Identifier;
 
 // A directory of rows, one pair each, the newest last; room for 64 is had at making. Not a map, since no call may
 // allocate. It is seen as its pairs.
@@ -47,16 +47,19 @@ impl Directory for RowDirectory {
     }
 
     fn put(&mut self, id: &[u8], entry: u32) -> Result<(), PutRefusal> {
-        if !lawful_identifier(id) {
+        let Some(identifier) = Identifier::new(id) else {
             return Err(PutRefusal::Unlawful);
-        }
+        };
         if self.find(id).is_some() {
             return Err(PutRefusal::Held);
         }
         if self.rows.len() >= CAPACITY {
             return Err(PutRefusal::Full);
         }
-        self.rows.push_reserved(entry_of(id, entry));
+        self.rows.push_reserved(Entry {
+            id: identifier,
+            number: entry,
+        });
         Ok(())
     }
 

@@ -1,3 +1,2 @@
 mod Dollars
 pub mod Judging
-mod Printable

@@ -1,11 +1,18 @@
 -- Lawful identifiers: between one and twenty bytes, all of them printable ASCII without the blank (33 to 126).
-use Rattle.std.specs.Prelude.{ℕ, Bool, true, ◌&&◌, List, [], ◌∷◌, length}
+use Rattle.std.specs.Prelude.{ℕ, Bool, ◌&&◌, List, length}
+use Rattle.std.specs.List.{list_all}
 use Rattle.terms.specs.Terms.{in_range}
 
--- every byte can be printed, and none is a blank
-abbrev pub printable : List ℕ → Bool
-printable [] = true
-printable (b ∷ bs) = in_range 33 b 126 && printable bs
+-- the most bytes of one
+abbrev pub longest : ℕ
+longest = 20
+
+-- the lowest and the highest byte that can be printed and is no blank
+abbrev pub lowest : ℕ
+lowest = 33
+
+abbrev pub highest : ℕ
+highest = 126
 
 abbrev pub lawful_identifier : List ℕ → Bool
-lawful_identifier id = in_range 1 (length id) 20 && printable id
+lawful_identifier id = in_range 1 (length id) longest && list_all (λ b. in_range lowest b highest) id

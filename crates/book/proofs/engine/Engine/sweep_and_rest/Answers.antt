@@ -24,7 +24,7 @@ returns g c =
     let name : id ≡ row_name row = c.as_bytes.ensures in
     let added =
     put_added c.put.result id k (d.number here.directory) (d.number held) (d.count here.directory) (d.count held) c.put.ensures
-    (ap lawful_identifier name ∙ place.lawful) (ap (d.number here.directory) name ∙ place.fresh) place.free
+    (ap lawful_identifier name ∙ row.identifier.lawful) (ap (d.number here.directory) name ∙ place.fresh) place.free
     in
     let joined = row_joined row rows id (d.number here.directory) (d.number held) (d.count here.directory) (d.count held) name added ready.tied in
     let market = c.sweep_in.ensures.market in
