@@ -1,6 +1,7 @@
 -- An entry, once the clock is at its time: its tests, and the new row's number and place. Cite name_test for the directory's
 -- part of the tests, entry_refused and entry_passed for what follows of them, newest_counted for the new row's number.
 use Rattle.std.proofs.Common.{◌≡◌, ℕ, ◌+◌, ◌≤◌, Bool, true, false, leb, ◌⊎◌, List, [], ◌∷◌, map, is_some, Some, None, Ok, Err, Option, Result, sym, refl, ap, ◌∙◌, inl, inr, arith}
+use Rattle.std.specs.Prelude.{if◌then◌else◌}
 use Rattle.std.specs.List.{AllByRecursion as Every}
 use Rattle.terms.specs.Terms.{OrderTerms}
 use Rattle.rules.specs.declared.refusal.Refusal.{Refusal}
@@ -39,7 +40,7 @@ module _ (t : ℕ) (id : List ℕ) (w : OrderTerms) (b : Book) where
 
   by_tests : (o : Option Order) (full spent : Bool) → elim o as (λ _. Outcome) [
     | Some _ ↦ refuse NameTaken b
-    | None ↦ elim full [ true ↦ refuse BookFull b | false ↦ elim spent [ true ↦ refuse EntriesSpent b | false ↦ entered_as (b.entries + 1) ] ]
+    | None ↦ if full then refuse BookFull b else if spent then refuse EntriesSpent b else entered_as (b.entries + 1)
   ] ≡ by_result (numbered_unless (is_some o) full spent (b.entries + 1))
   by_tests (Some o) full spent = refl
   by_tests None true spent = refl

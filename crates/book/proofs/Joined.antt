@@ -6,6 +6,7 @@ use lib.Seq.{take-append_seam}
 use Rattle.std.proofs.lemmas.Bool.{both_ways, cases_Bool, lt-ltb}
 use Rattle.std.proofs.lemmas.Bool.Decides.{not_from_Decides}
 use Rattle.std.proofs.lemmas.Slice.Eq.{bytes_eq-Decides}
+use Rattle.std.specs.Prelude.{if◌then◌else◌}
 use Rattle.terms.specs.Identifiers.{lawful_identifier}
 use Rattle.directory.specs.declared.directory.PutRefusal.{PutRefusal}
 use Rattle.directory.specs.declared.directory.PutRefusal.TheVariants.{Unlawful, Held, Full}
@@ -42,7 +43,7 @@ module _ (r : Row) where
   unfolding number_named
   others_named id other [] = later id r [] (bytes_apart id (row_name r) other)
   others_named id other (x ∷ xs) =
-      ap (λ z. elim (bytes_eq id (row_name x)) as (λ _. Option ℕ) [ true ↦ Some x.number | false ↦ z ]) (others_named id other xs)
+      ap (λ z. if bytes_eq id (row_name x) then Some x.number else z) (others_named id other xs)
 
   apart_more : (xs : List Row) → number_named (row_name r) xs ≡ None → Apart xs → Apart (xs ++ (r ∷ []))
   apart_more [] e a = (nobody (row_name r), tt)
@@ -76,9 +77,9 @@ pub put_added : (r : Result (Unit {0}) PutRefusal) (id : List ℕ) (n : ℕ) (wa
 put_added (Ok u) id n was is had has added lawful fresh free = added
 put_added (Err why) id n was is had has refused lawful fresh free =
     absurd (none_some (put_refusal id (was id) had) why
-    (if_true (lawful_identifier id) _ (Some Unlawful) lawful
+    (ap (λ z. elim z as (λ _. Option PutRefusal) [ false ↦ Some Unlawful | true ↦ elim (was id) as (λ _. Option PutRefusal) [ Some n ↦ Some Held | None ↦ elim (ltb had 64) [ false ↦ Some Full | true ↦ None ] ] ]) lawful
     ∙ ap (λ (z : Option ℕ). elim z as (λ _. Option PutRefusal) [ Some n ↦ Some Held | None ↦ elim (ltb had 64) [ false ↦ Some Full | true ↦ None ] ]) fresh
-    ∙ if_true (ltb had 64) None (Some Full) (lt-ltb had 64 free))
+    ∙ ap (λ z. elim z as (λ _. Option PutRefusal) [ false ↦ Some Full | true ↦ None ]) (lt-ltb had 64 free))
     refused.because)
 
 -- The newest row, whatever is left of it

@@ -1,7 +1,8 @@
 -- Rows that differ in their shares alone have the same pairs. Cite tied_kept.
-use Rattle.std.proofs.Common.{◌≡◌, ℕ, true, false, List, [], ◌∷◌, map, length, Some, Option, sym, refl, ap, ◌∙◌, subst}
+use Rattle.std.proofs.Common.{◌≡◌, ℕ, List, [], ◌∷◌, map, length, Some, Option, sym, refl, ap, ◌∙◌, subst}
 use Rattle.std.proofs.lemmas.List.{length-map}
 use Rattle.std.specs.Str.{bytes_eq}
+use Rattle.std.specs.Prelude.{if◌then◌else◌}
 use Rattle.market.specs.declared.row.Row.{Row}
 use Rattle.market.specs.Changes.{with_left, SameButShares}
 use Rattle.book.specs.Tied.{row_name, number_named, Apart, Tied}
@@ -10,7 +11,7 @@ by_name : (id : List ℕ) (rs : List Row) → number_named id (map (with_left 0)
 unfolding number_named
 by_name id [] = refl
 by_name id (r ∷ rs) =
-    ap (λ z. elim (bytes_eq id (row_name r)) as (λ _. Option ℕ) [ true ↦ Some r.number | false ↦ z ]) (by_name id rs)
+    ap (λ z. if bytes_eq id (row_name r) then Some r.number else z) (by_name id rs)
 
 apart_out : (rs : List Row) → Apart rs → Apart (map (with_left 0) rs)
 apart_out [] a = tt

@@ -1,6 +1,7 @@
 -- A row that leaves with its pair: the directory stays tied to the rows. Cite row_left.
-use Rattle.std.proofs.Common.{◌≡◌, ℕ, true, false, ◌⊎◌, List, [], ◌∷◌, ◌++◌, Some, None, Option, sym, refl, ap, ◌∙◌, subst, inl, inr, arith, length-append, MatchOption}
-use Rattle.std.proofs.lemmas.Slice.Eq.{bytes_eq-Decides}
+use Rattle.std.proofs.Common.{◌≡◌, ℕ, true, false, ◌⊎◌, List, [], ◌∷◌, ◌++◌, Some, None, Option, sym, refl, ap, ◌∙◌, subst, inl, inr, arith, length-append, MatchOption, Bool, Decides, rules}
+use Rattle.std.proofs.lemmas.Slice.Eq.{bytes_eq-Decides, compares_Decides}
+use Rattle.std.specs.Prelude.{if◌then◌else◌}
 use Rattle.std.proofs.lemmas.Option.{MatchOption-at_some}
 use Rattle.std.proofs.lemmas.Bool.{cases_Bool}
 use Rattle.std.proofs.lemmas.Bool.Decides.{not_from_Decides}
@@ -42,7 +43,7 @@ module _ (r : Row) (ls : List Row) where
   unfolding number_named
   others_stay id other [] = sym (later id r ls (bytes_apart id (row_name r) other))
   others_stay id other (x ∷ es) =
-      ap (λ z. elim (bytes_eq id (row_name x)) as (λ _. Option ℕ) [ true ↦ Some x.number | false ↦ z ]) (others_stay id other es)
+      ap (λ z. if bytes_eq id (row_name x) then Some x.number else z) (others_stay id other es)
 
   pub apart_still : (es : List Row) → Apart (es ++ (r ∷ ls)) → Apart (es ++ ls)
   apart_still [] a = a.1

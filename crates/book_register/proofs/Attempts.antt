@@ -1,18 +1,18 @@
 -- One order: what a refused ticket, and an entry, make of a book. Cite no_ticket, ticketed, refused_so, pushed_so and full_so.
-use Rattle.std.proofs.Common.{◌≡◌, ℕ, ◌-◌, length, Some, Ok, Err, Result, sym, refl, ap, ◌∙◌, arith}
+use Rattle.std.proofs.Common.{◌≡◌, ℕ, Some, Ok, Err, Result, sym, refl, ap, ◌∙◌, arith}
 use Rattle.std.specs.Prelude.{MatchResult}
 use Rattle.terms.specs.Terms.{OrderTerms}
 use Rattle.register.specs.declared.fault.Fault.{Fault}
 use Rattle.register.specs.Faults.{listed_ticket}
 use Rattle.register.specs.Layout.{Listed}
 use Rattle.rules.specs.Answers.{Answer}
-use Rattle.rules.specs.Calls.{Outcome, call, entry}
+use Rattle.rules.specs.Calls.{entry}
 use Rattle.book.specs.declared.refusal.Rejected.{Rejected}
 use Rattle.book.specs.Running.{Running, answer_to, after}
 use Rattle.book.specs.Carried.{entry_told}
 use Rattle.book_register.specs.declared.load.LoadFault.{LoadFault}
 use Rattle.book_register.specs.declared.load.LoadFault.TheVariants.{Register, Book, SlipsFull}
-use Rattle.book_register.specs.Loads.{Attempt, entry_fault, made, attempt_with}
+use Rattle.book_register.specs.Loads.{Attempt, entry_fault, attempt_with}
 use Rattle.book_register.specs.Loaded.{fault_of, attempt_at, Attempted}
 
 -- an entry that was refused leaves the fault of the refusal

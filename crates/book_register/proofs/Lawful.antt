@@ -3,7 +3,8 @@ use Rattle.std.proofs.Common.{◌≡◌, ℕ, zero, suc, ◌+◌, ◌<◌, ◌�
 use Rattle.std.specs.List.{AllByRecursion as Every}
 use Rattle.std.proofs.ByRecursion.{All-append, All-push}
 use Rattle.std.proofs.lemmas.List.{length-append}
-use Rattle.terms.specs.Terms.{OrderTerms, ticket_from}
+use Rattle.terms.specs.Terms.{OrderTerms}
+use Rattle.terms.specs.Judging.{ticket_from}
 use Rattle.terms.specs.declared.refusal.Refusal.{Refusal}
 use Rattle.register.specs.declared.fault.Fault.{Fault}
 use Rattle.register.specs.declared.fault.Fault.TheVariants.{Ticket}

@@ -1,5 +1,5 @@
 -- Each order of a book is listed as a lawful ticket, since the book was reached by a run. Cite tickets_again.
-use Rattle.std.proofs.Common.{◌≡◌, ◌≤◌, List, [], ◌∷◌, map, vec_items, sym, subst}
+use Rattle.std.proofs.Common.{◌≡◌, ◌≤◌, List, [], ◌∷◌, map, sym, subst}
 use Rattle.std.specs.List.{AllByRecursion as Every}
 use Rattle.rules.specs.Limits.{fewest_left}
 use Rattle.rules.specs.Market.{Order, Book as RuleBook}

@@ -1,7 +1,7 @@
 -- A book in bytes: the orders that rest in it, by ascending entry number, each with its shares left.
 use Rattle.std.specs.Prelude.{◌≡◌, ℕ, List, map, take, Ok, Result, MatchResult}
 use Rattle.std.specs.List.{AllByRecursion as Every}
-use Rattle.terms.specs.Terms.{ticket_from}
+use Rattle.terms.specs.Judging.{ticket_from}
 use Rattle.register.specs.Layout.{Listed}
 use Rattle.rules.specs.Market.{Order, Book}
 use Rattle.register.specs.declared.fill.NoRoom.{NoRoom}

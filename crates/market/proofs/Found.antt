@@ -4,7 +4,7 @@ use Rattle.std.proofs.Common.{◌≡◌, ℕ, suc, ◌+◌, ◌<◌, ◌≤◌, 
 use Rattle.std.specs.List.{filter, position, position_or_len}
 use Rattle.std.proofs.lemmas.List.{length-map}
 use Rattle.std.proofs.lemmas.Bool.{ltb-true, ltb-false, lt-ltb, eq-eqb, eqb-true, ne_eqb, and_parts, and_from, true≢false}
-use Rattle.rules.specs.Market.{Order, resting}
+use Rattle.rules.specs.Market.{resting}
 use Rattle.rules.proofs.Cases.{if_both, if_true, if_false}
 use Rattle.market.specs.declared.row.Row.{Row}
 use Rattle.market.specs.Rows.{row_order, rests, orders_in}
@@ -102,7 +102,7 @@ unfolding orders_in
 orders_of [] = refl
 orders_of (r ∷ rs) = by (rests r) (orders_of rs)
   where
-    by : (b : Bool) → map row_order (filter rests rs) ≡ orders_in rs → map row_order (cond b (r ∷ filter rests rs) (filter rests rs)) ≡ elim b as (λ _. List Order) [ true ↦ row_order r ∷ orders_in rs | false ↦ orders_in rs ]
+    by : (b : Bool) → map row_order (filter rests rs) ≡ orders_in rs → map row_order (cond b (r ∷ filter rests rs) (filter rests rs)) ≡ cond b (row_order r ∷ orders_in rs) (orders_in rs)
     by true e = ap (λ os. row_order r ∷ os) e
     by false e = e
 

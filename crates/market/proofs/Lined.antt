@@ -1,5 +1,6 @@
 -- A sweep, line by line. Cite lines_go for a line, lines_gone and lines_alone where it ends, line_room for the tape.
 use Rattle.std.proofs.Common.{◌≡◌, ℕ, zero, suc, ◌+◌, ◌≤◌, Bool, true, false, ◌&&◌, List, [], ◌∷◌, length, Some, None, fold, Option, sym, refl, ap, ◌∙◌, arith, length-append}
+use Rattle.std.specs.Prelude.{if◌then◌else◌}
 use Rattle.terms.specs.Sides.{opposite, same_side, meets}
 use Rattle.terms.specs.declared.side.Side.{Side}
 use Rattle.terms.specs.declared.side.Side.TheVariants.{Buy, Sell}
@@ -18,9 +19,9 @@ module _ (ls : List Line) (b : Table) where
   better_still : (s : Side) (p : ℕ) (best : Option Order) (x : Order) → better_of (seen b) s p best x ≡ better_of (market_with ls b) s p best x
   unfolding ranked_in
   better_still s p None x =
-      ap (λ r. elim (same_side (side_of x) s && meets s r p) as (λ _. Option Order) [ true ↦ Some x | false ↦ None ]) (reach_still ls b x)
+      ap (λ r. if same_side (side_of x) s && meets s r p then Some x else None) (reach_still ls b x)
   better_still s p (Some y) x =
-      ap (λ r. elim ((same_side (side_of x) s && meets s r p) && ahead (seen b) s p x y) as (λ _. Option Order) [ true ↦ Some x | false ↦ Some y ]) (reach_still ls b x)
+      ap (λ r. if (same_side (side_of x) s && meets s r p) && ahead (seen b) s p x y then Some x else Some y) (reach_still ls b x)
 
   fold_still : (s : Side) (p : ℕ) (best : Option Order) (os : List Order) → fold (better_of (seen b) s p) best os ≡ fold (better_of (market_with ls b) s p) best os
   fold_still s p best [] = refl

@@ -24,7 +24,7 @@ counted s [] = refl
 counted s (r ∷ rs) =
     by (rests r) (same_side r.terms.side s) (sum_by-cons (λ (o : Order). cond (same_side (side_of o) s) 1 0) (row_order r) (orders_in rs)) (counted s rs)
   where
-    by : (b c : Bool) → count_on s (row_order r ∷ orders_in rs) ≡ cond c 1 0 + count_on s (orders_in rs) → length (filter (rests_here s) rs) ≡ count_on s (orders_in rs) → length (cond (b && c) (r ∷ filter (rests_here s) rs) (filter (rests_here s) rs)) ≡ count_on s (elim b as (λ _. List Order) [ true ↦ row_order r ∷ orders_in rs | false ↦ orders_in rs ])
+    by : (b c : Bool) → count_on s (row_order r ∷ orders_in rs) ≡ cond c 1 0 + count_on s (orders_in rs) → length (filter (rests_here s) rs) ≡ count_on s (orders_in rs) → length (cond (b && c) (r ∷ filter (rests_here s) rs) (filter (rests_here s) rs)) ≡ count_on s (cond b (row_order r ∷ orders_in rs) (orders_in rs))
     by true true h e = omega (arith, h, e)
     by true false h e = omega (arith, h, e)
     by false c h e = e

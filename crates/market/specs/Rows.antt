@@ -1,5 +1,5 @@
 -- Rows of the order table, as the rule book's orders.
-use Rattle.std.specs.Prelude.{ℕ, ◌+◌, Bool, true, false, ◌&&◌, List, [], ◌∷◌, nat_lt}
+use Rattle.std.specs.Prelude.{ℕ, ◌+◌, Bool, true, false, ◌&&◌, List, [], ◌∷◌, nat_lt, if◌then◌else◌}
 use Rattle.terms.specs.Made.{terms_of}
 use Rattle.rules.specs.Limits.{most_resting}
 use Rattle.rules.specs.Market.{Order}
@@ -26,4 +26,4 @@ rests row = nat_lt 0 row.left
 -- the orders that rest, in the rows' order
 unfoldable pub orders_in : List Row → List Order
 orders_in [] = []
-orders_in (row ∷ rows) = elim (rests row) [ true ↦ row_order row ∷ orders_in rows | false ↦ orders_in rows ]
+orders_in (row ∷ rows) = if rests row then row_order row ∷ orders_in rows else orders_in rows

@@ -1,13 +1,13 @@
 -- A page that holds orders holds one more after an order is written, and the same where it does not fit.
 -- Cite holds_order with lawful_width for one order, wholes_more and wholes_stop for a list of them, answer_reads for a
 -- whole register.
-use Rattle.std.proofs.Common.{◌≡◌, ℕ, ◌+◌, ◌-◌, ◌^◌, ◌<◌, ◌≤◌, Bool, true, false, cond, leb, List, [], ◌∷◌, ◌++◌, length, take, drop, ℤ, pos, negsuc, Result, sym, refl, ap, ◌∙◌, subst, append_assoc, append-nil, arith, MatchResult}
+use Rattle.std.proofs.Common.{◌≡◌, ℕ, suc, ◌+◌, ◌-◌, ◌^◌, ◌<◌, ◌≤◌, Bool, true, false, cond, leb, List, [], ◌∷◌, ◌++◌, length, take, drop, ℤ, pos, negsuc, Result, sym, refl, ap, ◌∙◌, subst, append_assoc, append-nil, arith, MatchResult}
 use Rattle.std.specs.List.{AllByRecursion as Every}
 use Rattle.std.proofs.lemmas.List.{length-append, length-take-le, take_at, flat_map_more}
 use Rattle.std.proofs.ByRecursion.{All-push}
 use Rattle.std.proofs.lemmas.Bool.{leb-true, and_parts, cond-true, cond-false}
 use Rattle.terms.specs.declared.ticket.Terms.{Terms}
-use Rattle.terms.specs.Terms.{offset_in_range}
+use Rattle.terms.specs.Judging.{offset_in_range}
 use Rattle.terms.specs.Made.{terms_of}
 use Rattle.register.specs.Layout.{Listed}
 use Rattle.register.specs.declared.fill.NoRoom.{NoRoom}
@@ -29,7 +29,7 @@ identifier_short free o h =
 
 small_offset : (z : ℤ) → offset_in_range z ≡ true → In16Bits z
 small_offset (pos k) h = omega (arith, leb-true k 100 h)
-small_offset (negsuc k) h = omega (arith, leb-true k 99 h)
+small_offset (negsuc k) h = omega (arith, leb-true (suc k) 100 h)
 
 pub lawful_width : (free : ℕ) (id : List ℕ) (w : Terms) (left : ℕ) → left < 2 ^ 32 → order_fits free (order_of id (terms_of w) left) ≡ true → InWidth (order_of id (terms_of w) left)
 lawful_width free id w left small h =

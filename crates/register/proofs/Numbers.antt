@@ -3,7 +3,7 @@
 use Rattle.std.proofs.Common.{◌≡◌, ℕ, zero, suc, ◌+◌, ◌-◌, ◌*◌, ◌/◌, ◌%◌, ◌^◌, ◌<◌, Bool, true, false, ltb, [], ◌∷◌, ℤ, pos, negsuc, sym, refl, ap, ◌∙◌, arith}
 use native.Mathlib.Nat.{div-div-eq-div-mul}
 use Rattle.std.proofs.lemmas.Bool.{lt-ltb, le-ltb, lt-leb}
-use Rattle.terms.specs.Terms.{is_zero}
+use Rattle.terms.specs.Judging.{is_zero}
 use Rattle.register.specs.Numbers.{number_from, two_bytes, four_bytes, signed_from, signed_bytes}
 use Rattle.register.specs.RoundTrip.{In16Bits}
 use Rattle.register.proofs.Branches.{if_true, if_not}

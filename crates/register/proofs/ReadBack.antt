@@ -4,7 +4,7 @@ use Rattle.std.specs.List.{flat_map, AllByRecursion as Every}
 use Rattle.std.proofs.lemmas.List.{length-append, take_at, drop_at}
 use Rattle.std.proofs.lemmas.Bool.{le-leb, leb-true, leb-false, eq-eqb, ne_eqb, and_right, and_from}
 use Rattle.terms.specs.declared.ticket.Draft.{Draft}
-use Rattle.terms.specs.Terms.{is_zero}
+use Rattle.terms.specs.Judging.{is_zero}
 use Rattle.register.specs.declared.fault.Fault.{Fault}
 use Rattle.register.specs.declared.fault.Fault.TheVariants.{CutShort, Malformed}
 use Rattle.register.specs.Numbers.{number_from, two_bytes, four_bytes, signed_from, signed_bytes}

@@ -1,6 +1,6 @@
 -- The codes of words are those that are read as these words, and lawful terms pass when they are judged. Cite ticket_back.
-use Rattle.std.proofs.Common.{◌≡◌, ℕ, ◌≤◌, Bool, true, false, leb, Some, None, Ok, Err, Option, Result, refl, ap, ◌∙◌, arith}
-use Rattle.std.proofs.lemmas.Bool.{le-leb, and_from}
+use Rattle.std.proofs.Common.{◌≡◌, ℕ, ◌≤◌, Bool, true, false, not, leb, Some, None, Ok, Err, Option, Result, refl, ap, ◌∙◌, arith}
+use Rattle.std.proofs.lemmas.Bool.{le-leb, and_from, cond-false}
 use Rattle.terms.specs.declared.side.Side.{Side}
 use Rattle.terms.specs.declared.side.Side.TheVariants.{Buy, Sell}
 use Rattle.terms.specs.declared.kind.Kind.{Kind}
@@ -11,11 +11,12 @@ use Rattle.terms.specs.declared.refusal.Refusal.{Refusal}
 use Rattle.terms.specs.declared.refusal.Refusal.TheVariants as refusal
 use Rattle.terms.specs.declared.ticket.Terms.{Terms}
 use Rattle.terms.specs.Codes.{side_code, kind_code, time_in_force_code, qdp_code, side_from, kind_from, time_in_force_from, qdp_from}
-use Rattle.terms.specs.Terms.{OrderTerms, in_range, most_shares, top_price, offset_in_range, go_together, judged, words_of}
+use Rattle.terms.specs.Terms.{OrderTerms, in_range}
+use Rattle.terms.specs.Limits.{most_shares, top_price}
+use Rattle.terms.specs.Judging.{offset_in_range, go_together, judged, words_of}
 use Rattle.terms.specs.Made.{terms_of}
 use Rattle.register.specs.Orders.{draft_of}
 use Rattle.register.specs.RoundTrip.{with_left, ListsATicket}
-use Rattle.register.proofs.Branches.{if_true}
 
 side_back : (s : Side) → side_from (side_code s) ≡ Some s
 side_back Buy = refl
@@ -65,10 +66,10 @@ module _ (w : OrderTerms) (left : ℕ) where
 
   judged_back : 1 ≤ left → left ≤ most_shares → 1 ≤ w.limit → w.limit ≤ top_price → offset_in_range w.offset ≡ true → go_together w.side w.kind w.time_in_force w.qdp w.offset ≡ true → judged (with_left w left) ≡ Ok (with_left w left)
   judged_back some few low high near fit =
-      if_true (in_range 1 left most_shares) _ (Err refusal.Shares) (within 1 left most_shares some few)
-      ∙ if_true (in_range 1 w.limit top_price) _ (Err refusal.Limit) (within 1 w.limit top_price low high)
-      ∙ if_true (offset_in_range w.offset) _ (Err refusal.Offset) near
-      ∙ if_true (go_together w.side w.kind w.time_in_force w.qdp w.offset) (Ok (with_left w left)) (Err refusal.Combination) fit
+      cond-false (not (in_range 1 left most_shares)) (Err refusal.Shares) _ (ap not (within 1 left most_shares some few))
+      ∙ cond-false (not (in_range 1 w.limit top_price)) (Err refusal.Limit) _ (ap not (within 1 w.limit top_price low high))
+      ∙ cond-false (not (offset_in_range w.offset)) (Err refusal.Offset) _ (ap not near)
+      ∙ cond-false (not (go_together w.side w.kind w.time_in_force w.qdp w.offset)) (Err refusal.Combination) (Ok (with_left w left)) (ap not fit)
 
 pub ticket_back : (t : Terms) (left : ℕ) → ListsATicket (terms_of t) left
 ticket_back t left some few =

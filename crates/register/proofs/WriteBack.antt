@@ -4,7 +4,7 @@ use Rattle.std.specs.List.{flat_map, AllByRecursion as Every}
 use Rattle.std.proofs.lemmas.List.{length-take-le, take-append-drop}
 use Rattle.std.proofs.ByRecursion.{All-take, All-drop}
 use Rattle.std.proofs.lemmas.Bool.{leb-true, eqb-true, eqb-false, and_parts, not-true, true≢false}
-use Rattle.terms.specs.Terms.{is_zero}
+use Rattle.terms.specs.Judging.{is_zero}
 use Rattle.register.specs.declared.fault.Fault.{Fault}
 use Rattle.register.specs.declared.fault.Fault.TheVariants.{CutShort, Malformed}
 use Rattle.register.specs.Numbers.{number_from, four_bytes, signed_from, signed_bytes}

@@ -6,7 +6,8 @@ use Rattle.terms.specs.declared.time_in_force.TimeInForce.TheVariants.{Rest}
 use Rattle.terms.specs.declared.ticket.Draft.{Draft}
 use Rattle.terms.specs.declared.refusal.Refusal.{Refusal}
 use Rattle.terms.specs.Codes.{refusal_number}
-use Rattle.terms.specs.Terms.{OrderTerms, ticket_from}
+use Rattle.terms.specs.Terms.{OrderTerms}
+use Rattle.terms.specs.Judging.{ticket_from}
 use Rattle.terms.specs.Prices.{ranked, reach}
 use Rattle.terms.specs.Identifiers.{lawful_identifier}
 use Rattle.register.specs.declared.fault.Fault.{Fault}

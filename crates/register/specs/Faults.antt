@@ -3,7 +3,8 @@ use Rattle.std.specs.Prelude.{ℕ, List, Ok, Err, codes, Result}
 use Rattle.terms.specs.Shown.{refusal_words}
 use Rattle.terms.specs.declared.ticket.Draft.{Draft}
 use Rattle.terms.specs.declared.ticket.Ticket.{Ticket as LawfulTicket}
-use Rattle.terms.specs.Terms.{OrderTerms, ticket_from}
+use Rattle.terms.specs.Terms.{OrderTerms}
+use Rattle.terms.specs.Judging.{ticket_from}
 use Rattle.terms.specs.Made.{ticket_terms}
 use Rattle.terms.specs.Codes.{refusal_number}
 use Rattle.register.specs.declared.fault.Fault.{Fault}

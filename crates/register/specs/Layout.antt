@@ -2,7 +2,7 @@
 use Rattle.std.specs.Prelude.{ℕ, Bool, true, false, not, ◌&&◌, List, [], ◌∷◌, ◌++◌, length, take, replicate, ℤ, pos, Some, None, Option, ◌==◌, slice_index}
 use Rattle.std.specs.Str.{bytes_eq}
 use Rattle.terms.specs.declared.ticket.Draft.{Draft}
-use Rattle.terms.specs.Terms.{is_zero}
+use Rattle.terms.specs.Judging.{is_zero}
 use Rattle.register.specs.Numbers.{number_from, four_bytes, two_bytes, signed_from, signed_bytes}
 
 -- an order as a register lists it: its identifier, and its ticket in numbers

@@ -1,7 +1,8 @@
 -- Writing and reading undo each other.
 use Rattle.std.specs.Prelude.{◌≡◌, ℕ, ◌^◌, ◌<◌, ◌≤◌, Bool, false, List, [], ◌∷◌, length, take, ℤ, pos, negsuc, Some, None, Ok}
 use Rattle.std.specs.List.{AllByRecursion as Every}
-use Rattle.terms.specs.Terms.{OrderTerms, ticket_from}
+use Rattle.terms.specs.Terms.{OrderTerms}
+use Rattle.terms.specs.Judging.{ticket_from}
 use Rattle.register.specs.Layout.{Listed}
 use Rattle.register.specs.Reading.{take_field, next_byte_is, read_next}
 use Rattle.register.specs.Orders.{register_bytes, draft_of}

@@ -3,8 +3,9 @@
 -- Cite: lines_keep, sweep_keep, each_keep, ends_keep; Lasts and run_lasts for an invariant of the market, run_keeps for one
 -- of the book; call_ways, enter_ways, cancel_ways for what holds of every way through a call.
 -- what lasts from line to line lasts over a sweep
-use Rattle.std.proofs.Common.{◌≡◌, ℕ, zero, suc, ◌+◌, ◌<◌, ◌≤◌, true, false, leb, List, [], ◌∷◌, length, Some, None, refl, ◌∙◌, subst}
+use Rattle.std.proofs.Common.{◌≡◌, ℕ, zero, suc, ◌+◌, ◌<◌, ◌≤◌, true, false, leb, List, [], ◌∷◌, length, Some, None, refl, ap, ◌∙◌, subst}
 use Rattle.std.proofs.lemmas.Bool.{leb-false, leb-true, and_parts}
+use Rattle.std.specs.Prelude.{not}
 use Rattle.terms.specs.Terms.{OrderTerms}
 use Rattle.terms.specs.declared.side.Side.{Side}
 use Rattle.terms.specs.declared.time_in_force.TimeInForce.{TimeInForce}
@@ -14,13 +15,12 @@ use Rattle.rules.specs.declared.refusal.Refusal.TheVariants.{NameTaken, BookFull
 use Rattle.rules.specs.Answers.{after_clock, cancelled}
 use Rattle.rules.specs.Calls.{Outcome, refuse, no_place, rested, swept_in, new_order, enter_at, named, cancel, cancel_at, call, Call, time_of, done_at, names_lawfully, timely, quote, requoted, entry, tick}
 use Rattle.rules.specs.Clock.{due, end_period, end_periods, at_time, settle}
-use Rattle.rules.specs.Examples.{id}
 use Rattle.rules.specs.Limits.{most_entries}
 use Rattle.rules.specs.Market.{Market, Order, resting, reach_in, Book, with_orders, without}
 use Rattle.rules.specs.Priority.{partner_for}
 use Rattle.rules.specs.Runs.{run}
 use Rattle.rules.specs.Sweep.{lines, trade, sweep, sweep_each}
-use Rattle.rules.proofs.Cases.{option_both, if_both, if_false, if_true}
+use Rattle.rules.proofs.Cases.{option_both, if_both, if_false, if_true, not_true}
 
 pub lines_keep : (P : Market → Type 0) (t p : ℕ) (o : Order)
     → ((m : Market) (row x : Order) → resting o.number m.orders ≡ Some row → partner_for o p m ≡ Some x → P m → P (trade t p row x m))
@@ -85,13 +85,11 @@ pub call_ways : (P : Outcome → Type 0) (free : ℕ) (c : Call) (b : Book)
     → P (call free c b)
 unfolding call
 call_ways P free c b declined accepted =
-    if_both (names_lawfully c) _ (refuse Identifier b) P
-    (λ _. if_both (timely c b) _ (refuse Time b) P
-    (λ e. if_both (leb (length b.market.orders) free) (done_at c (at_time (time_of c) b)) (refuse TapeShort b) P
-    (λ _. accepted (leb-true b.clock (time_of c) (and_parts (leb b.clock (time_of c)) _ e).0))
-    (λ _. declined TapeShort refl))
-    (λ _. declined Time refl))
-    (λ _. declined Identifier refl)
+    if_both (not (names_lawfully c)) (refuse Identifier b) _ P (λ _. declined Identifier refl)
+    (λ _. if_both (not (timely c b)) (refuse Time b) _ P (λ _. declined Time refl)
+    (λ e. if_both (not (leb (length b.market.orders) free)) (refuse TapeShort b) (done_at c (at_time (time_of c) b)) P
+    (λ _. declined TapeShort refl)
+    (λ _. accepted (leb-true b.clock (time_of c) (and_parts (leb b.clock (time_of c)) _ (not_true (timely c b) e)).0))))
 
 pub at_time_clock : (u : ℕ) (b : Book) → (at_time u b).clock ≡ u
 unfolding at_time
@@ -104,23 +102,23 @@ at_time_entries u b = refl
 -- a call by what its tests say
 pub call_unlawful : (free : ℕ) (d : Call) (b : Book) → names_lawfully d ≡ false → call free d b ≡ refuse Identifier b
 unfolding call
-call_unlawful free d b e = if_false (names_lawfully d) _ (refuse Identifier b) e
+call_unlawful free d b e = if_true (not (names_lawfully d)) (refuse Identifier b) _ (ap not e)
 
 pub call_untimely : (free : ℕ) (d : Call) (b : Book) → names_lawfully d ≡ true → timely d b ≡ false → call free d b ≡ refuse Time b
 unfolding call
-call_untimely free d b e f = if_true (names_lawfully d) _ (refuse Identifier b) e ∙ if_false (timely d b) _ (refuse Time b) f
+call_untimely free d b e f = if_false (not (names_lawfully d)) (refuse Identifier b) _ (ap not e) ∙ if_true (not (timely d b)) (refuse Time b) _ (ap not f)
 
 pub call_short : (free : ℕ) (d : Call) (b : Book) → names_lawfully d ≡ true → timely d b ≡ true
     → leb (length b.market.orders) free ≡ false → call free d b ≡ refuse TapeShort b
 unfolding call
 call_short free d b e f g =
-    if_true (names_lawfully d) _ (refuse Identifier b) e ∙ if_true (timely d b) _ (refuse Time b) f ∙ if_false (leb (length b.market.orders) free) _ (refuse TapeShort b) g
+    if_false (not (names_lawfully d)) (refuse Identifier b) _ (ap not e) ∙ if_false (not (timely d b)) (refuse Time b) _ (ap not f) ∙ if_true (not (leb (length b.market.orders) free)) (refuse TapeShort b) _ (ap not g)
 
 pub call_done : (free : ℕ) (d : Call) (b : Book) → names_lawfully d ≡ true → timely d b ≡ true
     → leb (length b.market.orders) free ≡ true → call free d b ≡ done_at d (at_time (time_of d) b)
 unfolding call
 call_done free d b e f g =
-    if_true (names_lawfully d) _ (refuse Identifier b) e ∙ if_true (timely d b) _ (refuse Time b) f ∙ if_true (leb (length b.market.orders) free) _ (refuse TapeShort b) g
+    if_false (not (names_lawfully d)) (refuse Identifier b) _ (ap not e) ∙ if_false (not (timely d b)) (refuse Time b) _ (ap not f) ∙ if_false (not (leb (length b.market.orders) free)) (refuse TapeShort b) _ (ap not g)
 
 -- Whole runs
 

@@ -13,7 +13,6 @@ use Rattle.terms.specs.declared.time_in_force.TimeInForce.TheVariants.{Rest, Imm
 use Rattle.rules.specs.Answers.{Answer, entered, cancelled, quoted, ticked, refused}
 use Rattle.rules.specs.Calls.{swept_in, joined, Call, quote, follows_quote, rested, done_at, entry, new_order, cancel, tick, Outcome, call, time_of}
 use Rattle.rules.specs.Clock.{settle, end_period, protected_on, at_time}
-use Rattle.rules.specs.Examples.{id}
 use Rattle.rules.specs.Laws.{Ascending, NumbersAscend, Counted, EntriesCounted, NumberedFrom, NumberedInTurn, SharesRemain, OrdersWithinPlaces}
 use Rattle.rules.specs.Limits.{most_entries, most_resting}
 use Rattle.rules.specs.Market.{Order, lower, Market, those, with_end, without, Book, with_quote, less, lowered}

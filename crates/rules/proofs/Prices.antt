@@ -3,6 +3,7 @@
 -- Cite: reach_same, reach_calms, reach_unprotected, reach_unpegged, mdo_prices.
 use Rattle.std.proofs.Common.{◌≡◌, ℕ, ◌+◌, ◌*◌, ◌<◌, ◌≤◌, min, max, Bool, true, false, ◌&&◌, ◌⊎◌, ◌↔◌, sym, refl, ap, ◌∙◌, subst, inl, inr, arith}
 use Rattle.std.proofs.lemmas.Bool.{true≢false, cases_lt}
+use Rattle.std.specs.Prelude.{if◌then◌else◌}
 use Rattle.terms.specs.Prices.{ranked, ranked_as, limit_or_midpoint, reach_with_discretion, peg}
 use Rattle.terms.specs.Sides.{tamer}
 use Rattle.terms.specs.Terms.{OrderTerms, is_mdo}
@@ -11,7 +12,6 @@ use Rattle.terms.specs.declared.kind.Kind.TheVariants.{DisplayedLimit, HiddenLim
 use Rattle.terms.specs.declared.side.Side.{Side}
 use Rattle.terms.specs.declared.side.Side.TheVariants.{Buy, Sell}
 use Rattle.rules.specs.Calls.{pegged}
-use Rattle.rules.specs.Examples.{after}
 use Rattle.rules.specs.Market.{Order, Market, reach_in, period_runs, side_of, ranked_in}
 
 -- p is no more aggressive than q for an order of the side
@@ -29,7 +29,7 @@ full_reach MidpointPeg w bid offer = ranked_as MidpointPeg w bid offer
 
 -- how far they reach, where discretion is off or not
 abbrev reach_as : Kind → OrderTerms → Bool → ℕ → ℕ → ℕ
-reach_as k w off bid offer = elim off [ true ↦ ranked_as k w bid offer | false ↦ full_reach k w bid offer ]
+reach_as k w off bid offer = if off then ranked_as k w bid offer else full_reach k w bid offer
 
 discretion_is : (k : Kind) (w : OrderTerms) (bid offer : ℕ) → w.kind ≡ k → reach_with_discretion k w bid offer ≡ full_reach k w bid offer
 discretion_is DisplayedLimit w bid offer e = ap (λ k. ranked_as k w bid offer) e
@@ -42,7 +42,7 @@ reach_is : (m : Market) (x : Order)
     → reach_in m x ≡ reach_as x.terms.kind x.terms (x.terms.qdp && period_runs (side_of x) m) m.bid m.offer
 unfolding reach_in
 reach_is m x =
-    ap (λ n. elim (x.terms.qdp && period_runs (side_of x) m) as (λ _. ℕ) [ true ↦ ranked x.terms m.bid m.offer | false ↦ n ])
+    ap (λ n. if x.terms.qdp && period_runs (side_of x) m then ranked x.terms m.bid m.offer else n)
     (discretion_is x.terms.kind x.terms m.bid m.offer refl)
 
 -- the reach at another quote that is the same, of an order with the same terms
@@ -145,7 +145,7 @@ at_midpoint Sell g l d e = omega arith
 
 -- discretion off or on
 off_or_on : (off : Bool) (s : Side) (g l d : ℕ)
-    → (tamer s g (tamer s l d) ≡ elim off [ true ↦ tamer s g (tamer s l d) | false ↦ tamer s l d ]) ↔ ((tamer s g (tamer s l d) ≡ l) ⊎ ((tamer s g (tamer s l d) ≡ d) ⊎ (off ≡ true)))
+    → (tamer s g (tamer s l d) ≡ (if off then tamer s g (tamer s l d) else tamer s l d)) ↔ ((tamer s g (tamer s l d) ≡ l) ⊎ ((tamer s g (tamer s l d) ≡ d) ⊎ (off ≡ true)))
 off_or_on true s g l d = ((λ _. inr (inr refl)), λ _. refl)
 off_or_on false s g l d = (
   (λ e. one (tamer_one s l d) e),

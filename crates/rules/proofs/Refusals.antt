@@ -9,7 +9,6 @@ use Rattle.rules.specs.declared.refusal.Refusal.TheVariants.{Time, Identifier, T
 use Rattle.rules.specs.Answers.{refused, after_clock}
 use Rattle.rules.specs.Calls.{refuse, Call, done_at, entry, rested, swept_in, new_order, cancel, quote, tick, names_lawfully, timely, call, Outcome, time_of}
 use Rattle.rules.specs.Clock.{at_time}
-use Rattle.rules.specs.Examples.{id}
 use Rattle.rules.specs.Laws.{RefusalLeaves, left_by}
 use Rattle.rules.specs.Market.{Book}
 use Rattle.rules.specs.Questions.{why}

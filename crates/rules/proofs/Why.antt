@@ -1,6 +1,6 @@
 -- The reason that is told of an order holds. The line that it names is the latest with its side's mark, and that line began
 -- the period that runs; so the search over the tape ends at that line.
-use Rattle.std.proofs.Common.{◌≡◌, ℕ, suc, ◌+◌, ◌*◌, true, false, cond, eqb, List, [], ◌∷◌, ◌++◌, length, is_some, Some, None, Option, sym, refl, ap, ◌∙◌, inl, inr, arith}
+use Rattle.std.proofs.Common.{◌≡◌, ℕ, suc, ◌+◌, ◌*◌, true, false, cond, not, eqb, List, [], ◌∷◌, ◌++◌, length, is_some, Some, None, Option, sym, refl, ap, ◌∙◌, inl, inr, arith}
 use Rattle.std.proofs.lemmas.Bool.{true≢false, and_parts, eqb-true, eqb-false}
 use Rattle.std.specs.List.{AllByRecursion as Every, slice_get}
 use Rattle.terms.specs.Terms.{is_mdo}
@@ -14,7 +14,7 @@ use Rattle.rules.specs.Market.{Book, Order, ranked_in, end_of, side_of, Market}
 use Rattle.rules.specs.Questions.{is_mark, latest_from, at_place, latest_mark, protection, why, no_mdo, at_limit, at_midpoint, discretion}
 use Rattle.rules.specs.Runs.{run, opened}
 use Rattle.rules.specs.Sweep.{side_mark}
-use Rattle.rules.proofs.Cases.{if_both}
+use Rattle.rules.proofs.Cases.{if_both, not_true, not_false}
 use Rattle.rules.proofs.Marks.{Cause, Marked, cause_of, run_marked, run_later}
 use Rattle.rules.proofs.Members.{all_in}
 use Rattle.rules.proofs.Periods.{Later}
@@ -70,8 +70,8 @@ protection_holds b o h a i l d q (Some e) p =
 reason_holds : (b : Book) (o : Order) → Marked b.clock b.market → Later b.clock b.market → Reason b o (why b.market o)
 unfolding why
 reason_holds b o h a =
-    if_both (is_mdo o.terms.kind) _ no_mdo (Reason b o)
-    (λ i. if_both (eqb (ranked_in m o) (2 * o.terms.limit)) at_limit _ (Reason b o) (λ e. eqb-true _ _ e)
+    if_both (not (is_mdo o.terms.kind)) no_mdo _ (Reason b o) (not_false (is_mdo o.terms.kind))
+    (λ n. let i = not_true (is_mdo o.terms.kind) n in if_both (eqb (ranked_in m o) (2 * o.terms.limit)) at_limit _ (Reason b o) (λ e. eqb-true _ _ e)
     (λ l. if_both (eqb (ranked_in m o) (m.bid + m.offer)) at_midpoint _ (Reason b o) (λ e. eqb-true _ _ e)
     (λ d. if_both o.terms.qdp (protection m o (end_of (side_of o) m)) discretion (Reason b o)
     (λ q. protection_holds b o h a i (eqb-false _ _ l) (eqb-false _ _ d) q (end_of (side_of o) m) refl)
@@ -80,7 +80,6 @@ reason_holds b o h a =
       | inr (inl f) ↦ eqb-false _ _ d f
       | inr (inr f) ↦ true≢false (sym (and_parts o.terms.qdp _ f).0 ∙ q)
     ]))))
-    (λ i. i)
   where
     m : Market
     m = b.market

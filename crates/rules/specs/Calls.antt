@@ -1,5 +1,5 @@
 -- The four calls. Each brings the clock to its time before it changes anything else.
-use Rattle.std.specs.Prelude.{ℕ, ◌+◌, ◌-◌, Bool, true, false, not, ◌&&◌, List, [], ◌∷◌, ◌++◌, length, Some, None, Option, nat_le}
+use Rattle.std.specs.Prelude.{ℕ, ◌+◌, ◌-◌, Bool, true, false, not, ◌&&◌, List, [], ◌∷◌, ◌++◌, length, Some, None, Option, nat_le, ◌==◌, if◌then◌else◌}
 use Rattle.std.specs.Str.{bytes_eq}
 use Rattle.terms.specs.declared.kind.Kind.{Kind}
 use Rattle.terms.specs.declared.kind.Kind.TheVariants.{DisplayedLimit, HiddenLimit, DisplayedMdo, HiddenMdo, MidpointPeg}
@@ -28,68 +28,68 @@ pub record Outcome : Type 0 where
   pub book : Book
 
 abbrev pub refuse : Refusal → Book → Outcome
-refuse why b = record { answer = refused why; book = b }
+refuse why book = record { answer = refused why; book = book }
 
 -- the resting order that an identifier names
 unfoldable pub named : List ℕ → List Order → Option Order
 named id [] = None
-named id (o ∷ os) = elim (bytes_eq id o.identifier) [ true ↦ Some o | false ↦ named id os ]
+named id (o ∷ os) = if bytes_eq id o.identifier then Some o else named id os
 
 -- Entry
 
 abbrev pub new_order : List ℕ → OrderTerms → ℕ → Order
-new_order id w k = record { identifier = id; number = k; terms = w; left = w.shares }
+new_order identifier terms number = record { identifier = identifier; number = number; terms = terms; left = terms.shares }
 
 abbrev pub joined : Order → Market → Market
-joined o m = with_orders (m.orders ++ (o ∷ [])) m
+joined order market = with_orders (market.orders ++ (order ∷ [])) market
 
 -- the new order stands among the resting ones, and is swept
 unfoldable pub swept_in : ℕ → Order → Market → Market
-swept_in t o m = sweep t o (joined o m)
+swept_in time order market = sweep time order (joined order market)
 
 abbrev pub left_of : Option Order → ℕ
 left_of None = 0
-left_of (Some o) = o.left
+left_of (Some order) = order.left
 
--- after the sweep of order k, entered with n shares: what is left of it rests, or lapses if it is IOC
+-- after the sweep of the order with that entry number, entered with so many shares: what is left of it rests, or lapses if
+-- it is IOC
 abbrev pub rested : TimeInForce → ℕ → ℕ → ℕ → Market → Outcome
-rested Rest t k n m =
+rested Rest time number shares market =
     record {
-      answer = entered k (n - left_of (resting k m.orders)) 0;
-      book = record { market = m; clock = t; entries = k };
+      answer = entered number (shares - left_of (resting number market.orders)) 0;
+      book = record { market = market; clock = time; entries = number };
     }
-rested ImmediateOrCancel t k n m =
+rested ImmediateOrCancel time number shares market =
     record {
-      answer = entered k (n - left_of (resting k m.orders)) (left_of (resting k m.orders));
-      book = record { market = with_orders (without k m.orders) m; clock = t; entries = k };
+      answer = entered number (shares - left_of (resting number market.orders)) (left_of (resting number market.orders));
+      book = record { market = with_orders (without number market.orders) market; clock = time; entries = number };
     }
 
 -- in a full book only an IOC order may be entered, since it never rests
 abbrev pub no_place : OrderTerms → Market → Bool
-no_place w m = nat_le most_resting (length m.orders) && not (is_ioc w.time_in_force)
+no_place terms market = nat_le most_resting (length market.orders) && not (is_ioc terms.time_in_force)
 
 abbrev pub enter_at : ℕ → List ℕ → OrderTerms → Book → Outcome
-enter_at t id w b =
-    elim (named id b.market.orders) [
-      | Some _ ↦ refuse NameTaken b
-      | None ↦ elim (no_place w b.market) [
-        | true ↦ refuse BookFull b
-        | false ↦ elim (nat_le most_entries b.entries) [
-          | true ↦ refuse EntriesSpent b
-          | false ↦ rested w.time_in_force t (b.entries + 1) w.shares (swept_in t (new_order id w (b.entries + 1)) b.market)
-        ]
-      ]
+enter_at time identifier terms book =
+    elim (named identifier book.market.orders) [
+      | Some _ ↦ refuse NameTaken book
+      | None ↦
+          if no_place terms book.market then refuse BookFull book
+          else if nat_le most_entries book.entries then refuse EntriesSpent book
+          else
+          rested terms.time_in_force time (book.entries + 1) terms.shares
+          (swept_in time (new_order identifier terms (book.entries + 1)) book.market)
     ]
 
 -- Cancel
 
 abbrev pub cancel_at : ℕ → List ℕ → Book → Outcome
-cancel_at t id b =
-    elim (named id b.market.orders) [
-      | None ↦ refuse NoSuchOrder b
-      | Some o ↦ record {
-        answer = cancelled o.left;
-        book = record { market = with_orders (without o.number b.market.orders) b.market; clock = t; entries = b.entries };
+cancel_at time identifier book =
+    elim (named identifier book.market.orders) [
+      | None ↦ refuse NoSuchOrder book
+      | Some order ↦ record {
+        answer = cancelled order.left;
+        book = record book { market = with_orders (without order.number book.market.orders) book.market; clock = time };
       }
     ]
 
@@ -104,55 +104,46 @@ pegged HiddenMdo = true
 pegged MidpointPeg = true
 
 abbrev pub follows_quote : Order → Bool
-follows_quote o = pegged o.terms.kind
+follows_quote order = pegged order.terms.kind
 
 -- the market at the new quote, with every order that follows it swept, lowest entry number first
 abbrev pub requoted : ℕ → ℕ → ℕ → Market → Market
-requoted t bid offer m = sweep_each t (those follows_quote m.orders) (with_quote bid offer m)
+requoted time bid offer market = sweep_each time (those follows_quote market.orders) (with_quote bid offer market)
 
 abbrev pub quote_at : ℕ → ℕ → ℕ → Book → Outcome
-quote_at t bid offer b =
-    record {
-      answer = quoted;
-      book = record { market = requoted t bid offer b.market; clock = t; entries = b.entries };
-    }
+quote_at time bid offer book =
+    record { answer = quoted; book = record book { market = requoted time bid offer book.market; clock = time } }
 
 -- All four
 
 -- what a call does once the clock is at its time
 unfoldable pub done_at : Call → Book → Outcome
-done_at (entry t id w) b = enter_at t id w b
-done_at (cancel t id) b = cancel_at t id b
-done_at (quote t bid offer) b = quote_at t bid offer b
-done_at (tick t) b = record { answer = ticked; book = b }
+done_at (entry time identifier terms) book = enter_at time identifier terms book
+done_at (cancel time identifier) book = cancel_at time identifier book
+done_at (quote time bid offer) book = quote_at time bid offer book
+done_at (tick time) book = record { answer = ticked; book = book }
 
 abbrev pub time_of : Call → ℕ
-time_of (entry t id w) = t
-time_of (cancel t id) = t
-time_of (quote t bid offer) = t
-time_of (tick t) = t
+time_of (entry time identifier terms) = time
+time_of (cancel time identifier) = time
+time_of (quote time bid offer) = time
+time_of (tick time) = time
 
 -- the call has no identifier, or a lawful one
 abbrev pub names_lawfully : Call → Bool
-names_lawfully (entry t id w) = lawful_identifier id
-names_lawfully (cancel t id) = lawful_identifier id
-names_lawfully (quote t bid offer) = true
-names_lawfully (tick t) = true
+names_lawfully (entry time identifier terms) = lawful_identifier identifier
+names_lawfully (cancel time identifier) = lawful_identifier identifier
+names_lawfully (quote time bid offer) = true
+names_lawfully (tick time) = true
 
 -- the time is not before the clock, and of the day
 abbrev pub timely : Call → Book → Bool
-timely c b = nat_le b.clock (time_of c) && nat_le (time_of c) last_moment
+timely next book = nat_le book.clock (time_of next) && nat_le (time_of next) last_moment
 
--- a call that finds so many free lines on the tape; three refusals come before the clock moves
+-- the next call, which finds so many free lines on the tape; three refusals come before the clock moves
 unfoldable pub call : ℕ → Call → Book → Outcome
-call free c b =
-    elim (names_lawfully c) [
-      | false ↦ refuse Identifier b
-      | true ↦ elim (timely c b) [
-        | false ↦ refuse Time b
-        | true ↦ elim (nat_le (length b.market.orders) free) [
-          | false ↦ refuse TapeShort b
-          | true ↦ done_at c (at_time (time_of c) b)
-        ]
-      ]
-    ]
+call free next book =
+    if not (names_lawfully next) then refuse Identifier book
+    else if not (timely next book) then refuse Time book
+    else if not (nat_le (length book.market.orders) free) then refuse TapeShort book
+    else done_at next (at_time (time_of next) book)

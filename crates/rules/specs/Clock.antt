@@ -1,5 +1,5 @@
 -- The clock: a protection period ends at its own end, whenever it is that the book is next told the time.
-use Rattle.std.specs.Prelude.{ℕ, zero, suc, ◌+◌, Bool, true, false, ◌&&◌, length, Some, None, Option, nat_le}
+use Rattle.std.specs.Prelude.{ℕ, zero, suc, ◌+◌, Bool, ◌&&◌, length, Some, None, Option, nat_le, if◌then◌else◌}
 use Rattle.terms.specs.declared.side.Side.{Side}
 use Rattle.terms.specs.declared.side.Side.TheVariants.{Buy, Sell}
 use Rattle.terms.specs.Sides.{same_side}
@@ -9,35 +9,37 @@ use Rattle.rules.specs.Sweep.{sweep_each}
 -- the period that ends first, with its side; the buy side's where both end together
 abbrev pub earliest : Option ℕ → Option ℕ → Option (Side × ℕ)
 earliest None None = None
-earliest None (Some e) = Some (Sell, e)
-earliest (Some e) None = Some (Buy, e)
-earliest (Some e) (Some f) = elim (nat_le e f) [ true ↦ Some (Buy, e) | false ↦ Some (Sell, f) ]
+earliest None (Some sell_end) = Some (Sell, sell_end)
+earliest (Some buy_end) None = Some (Buy, buy_end)
+earliest (Some buy_end) (Some sell_end) = if nat_le buy_end sell_end then Some (Buy, buy_end) else Some (Sell, sell_end)
 
 abbrev pub not_after : ℕ → Option (Side × ℕ) → Option (Side × ℕ)
-not_after t None = None
-not_after t (Some d) = elim (nat_le d.1 t) [ true ↦ Some d | false ↦ None ]
+not_after time None = None
+not_after time (Some period) = if nat_le period.1 time then Some period else None
 
--- the period that ends first, if its end has come by t
+-- the period that ends first, if its end has come by the time
 abbrev pub due : ℕ → Market → Option (Side × ℕ)
-due t m = not_after t (earliest m.buy_end m.sell_end)
+due time market = not_after time (earliest market.buy_end market.sell_end)
 
 -- an order of the side that a protection period restrains
 abbrev pub protected_on : Side → Order → Bool
-protected_on s o = o.terms.qdp && same_side (side_of o) s
+protected_on side order = order.terms.qdp && same_side (side_of order) side
 
 -- the side's period ends, and its QDP orders are swept at that time, lowest entry number first
 unfoldable pub end_period : Side × ℕ → Market → Market
-end_period d m = sweep_each d.1 (those (protected_on d.0) m.orders) (with_end d.0 None m)
+end_period period market =
+    sweep_each period.1 (those (protected_on period.0) market.orders) (with_end period.0 None market)
 
 -- the next due period ends, while there is one
 unfoldable pub end_periods : ℕ → ℕ → Market → Market
-end_periods zero t m = m
-end_periods (suc turns) t m = elim (due t m) [ None ↦ m | Some d ↦ end_periods turns t (end_period d m) ]
+end_periods zero time market = market
+end_periods (suc turns) time market =
+    elim (due time market) [ None ↦ market | Some period ↦ end_periods turns time (end_period period market) ]
 
--- every period that is due by t has ended. A period that begins here ends an order, so this many turns are enough
+-- every period that is due by the time has ended. A period that begins here ends an order, so this many turns are enough
 unfoldable pub settle : ℕ → Market → Market
-settle t m = end_periods (length m.orders + 2) t m
+settle time market = end_periods (length market.orders + 2) time market
 
--- the book with its clock brought to t
+-- the book with its clock brought to the time
 unfoldable pub at_time : ℕ → Book → Book
-at_time t b = record { market = settle t b.market; clock = t; entries = b.entries }
+at_time time book = record book { market = settle time book.market; clock = time }

@@ -1,5 +1,5 @@
 -- What a book holds. The market is all that a sweep reads or changes; clock and count stand outside of it.
-use Rattle.std.specs.Prelude.{ℕ, ◌-◌, Bool, true, false, List, [], ◌∷◌, ◌++◌, is_some, Some, None, Option, ◌==◌, nat_le}
+use Rattle.std.specs.Prelude.{ℕ, ◌-◌, Bool, List, [], ◌∷◌, ◌++◌, is_some, Some, None, Option, ◌==◌, nat_le, if◌then◌else◌}
 use Rattle.terms.specs.declared.side.Side.{Side}
 use Rattle.terms.specs.declared.side.Side.TheVariants.{Buy, Sell}
 use Rattle.terms.specs.Terms.{OrderTerms}
@@ -30,66 +30,63 @@ pub record Book : Type 0 where
   pub entries : ℕ
 
 abbrev pub side_of : Order → Side
-side_of o = o.terms.side
+side_of order = order.terms.side
 
 -- when the side's protection period ends; nothing where none runs
 abbrev pub end_of : Side → Market → Option ℕ
-end_of Buy m = m.buy_end
-end_of Sell m = m.sell_end
+end_of Buy market = market.buy_end
+end_of Sell market = market.sell_end
 
 abbrev pub period_runs : Side → Market → Bool
-period_runs s m = is_some (end_of s m)
+period_runs side market = is_some (end_of side market)
 
 abbrev pub with_end : Side → Option ℕ → Market → Market
-with_end Buy e m =
-    record { orders = m.orders; bid = m.bid; offer = m.offer; buy_end = e; sell_end = m.sell_end; tape = m.tape }
-with_end Sell e m =
-    record { orders = m.orders; bid = m.bid; offer = m.offer; buy_end = m.buy_end; sell_end = e; tape = m.tape }
+with_end Buy until market = record market { buy_end = until }
+with_end Sell until market = record market { sell_end = until }
 
 abbrev pub with_orders : List Order → Market → Market
-with_orders os m =
-    record { orders = os; bid = m.bid; offer = m.offer; buy_end = m.buy_end; sell_end = m.sell_end; tape = m.tape }
+with_orders orders market = record market { orders = orders }
 
 abbrev pub with_line : Line → Market → Market
-with_line l m =
-    record { orders = m.orders; bid = m.bid; offer = m.offer; buy_end = m.buy_end; sell_end = m.sell_end; tape = m.tape ++ (l ∷ []) }
+with_line line market = record market { tape = market.tape ++ (line ∷ []) }
 
 abbrev pub with_quote : ℕ → ℕ → Market → Market
-with_quote bid offer m =
-    record { orders = m.orders; bid = bid; offer = offer; buy_end = m.buy_end; sell_end = m.sell_end; tape = m.tape }
+with_quote bid offer market = record market { bid = bid; offer = offer }
 
 -- the price at which an order stands, as the market is now
 unfoldable pub ranked_in : Market → Order → ℕ
-ranked_in m o = ranked o.terms m.bid m.offer
+ranked_in market order = ranked order.terms market.bid market.offer
 
 -- the price up to which it trades, as the market is now; every rule asks for the reach by this name
 unfoldable pub reach_in : Market → Order → ℕ
-reach_in m o = reach o.terms (period_runs (side_of o) m) m.bid m.offer
+reach_in market order = reach order.terms (period_runs (side_of order) market) market.bid market.offer
 
 -- the resting order with that entry number
 unfoldable pub resting : ℕ → List Order → Option Order
-resting k [] = None
-resting k (o ∷ os) = elim (o.number == k) [ true ↦ Some o | false ↦ resting k os ]
+resting number [] = None
+resting number (order ∷ others) = if order.number == number then Some order else resting number others
 
 -- all orders but the one with that entry number
 unfoldable pub without : ℕ → List Order → List Order
-without k [] = []
-without k (o ∷ os) = elim (o.number == k) [ true ↦ without k os | false ↦ o ∷ without k os ]
+without number [] = []
+without number (order ∷ others) =
+    let rest = without number others in if order.number == number then rest else order ∷ rest
 
 -- the order with so many shares fewer
 abbrev pub less : ℕ → Order → Order
-less n o = record { identifier = o.identifier; number = o.number; terms = o.terms; left = o.left - n }
+less shares order = record order { left = order.left - shares }
 
 -- the order with so many shares fewer, before others; it leaves where none would be left
 abbrev pub lowered : ℕ → Order → List Order → List Order
-lowered n o os = elim (nat_le o.left n) [ true ↦ os | false ↦ less n o ∷ os ]
+lowered shares order others = if nat_le order.left shares then others else less shares order ∷ others
 
--- the order with that entry number is lowered by n shares; every other one is as it was
+-- the order with that entry number has so many shares fewer; every other one is as it was
 unfoldable pub lower : ℕ → ℕ → List Order → List Order
-lower k n [] = []
-lower k n (o ∷ os) = elim (o.number == k) [ true ↦ lowered n o (lower k n os) | false ↦ o ∷ lower k n os ]
+lower number shares [] = []
+lower number shares (order ∷ others) =
+    let rest = lower number shares others in if order.number == number then lowered shares order rest else order ∷ rest
 
 -- those of the orders that pass a test, in their order
 unfoldable pub those : (Order → Bool) → List Order → List Order
-those f [] = []
-those f (o ∷ os) = elim (f o) [ true ↦ o ∷ those f os | false ↦ those f os ]
+those passes [] = []
+those passes (order ∷ others) = let rest = those passes others in if passes order then order ∷ rest else rest

@@ -1,5 +1,5 @@
 -- Questions, which alter nothing, and the figures at the close.
-use Rattle.std.specs.Prelude.{◌≡◌, ℕ, zero, suc, ◌+◌, ◌*◌, Bool, true, false, cond, List, [], ◌∷◌, Some, None, sum_by, count_by, Option, ◌==◌}
+use Rattle.std.specs.Prelude.{◌≡◌, ℕ, zero, suc, ◌+◌, ◌*◌, Bool, true, false, not, List, [], ◌∷◌, Some, None, sum_by, count_by, Option, ◌==◌, if◌then◌else◌}
 use Rattle.std.specs.List.{ContainsAt as Has, AllByRecursion as Every, slice_get}
 use Rattle.terms.specs.declared.side.Side.{Side}
 use Rattle.terms.specs.declared.side.Side.TheVariants.{Buy, Sell}
@@ -14,21 +14,24 @@ use Rattle.rules.specs.Priority.{class_of, goes_first}
 
 -- The ranked question
 
--- x is ranked before y: by a better ranked price; at the same price by a lower class, and in the same class by a lower number
+-- one order is ranked before the other: by a better ranked price; at the same price by a lower class, and in the same class
+-- by a lower number
 abbrev pub ranks_before : Market → Side → Order → Order → Bool
-ranks_before m s x y =
-    goes_first s (ranked_in m x) (class_of x.terms.kind) x.number (ranked_in m y) (class_of y.terms.kind) y.number
+ranks_before market side order other =
+    goes_first side (ranked_in market order) (class_of order.terms.kind) order.number (ranked_in market other)
+    (class_of other.terms.kind) other.number
 
 -- each is ranked before all that follow it, and so none occurs twice
 abbrev pub InRank : Market → Side → List Order → Type 0
-InRank m s [] = Unit {0}
-InRank m s (x ∷ xs) = Every (λ y. ranks_before m s x y ≡ true) xs × InRank m s xs
+InRank market side [] = Unit {0}
+InRank market side (order ∷ others) =
+    Every (λ other. ranks_before market side order other ≡ true) others × InRank market side others
 
 -- the orders are those that rest on the side, each once, in rank
-pub record Ranking (m : Market) (s : Side) (os : List Order) : Type 0 where
-  pub complete : (o : Order) → Has m.orders o → side_of o ≡ s → Has os o
-  pub resting : (o : Order) → Has os o → Has m.orders o × (side_of o ≡ s)
-  pub in_rank : InRank m s os
+pub record Ranking (market : Market) (side : Side) (orders : List Order) : Type 0 where
+  pub complete : (order : Order) → Has market.orders order → side_of order ≡ side → Has orders order
+  pub resting : (order : Order) → Has orders order → Has market.orders order × (side_of order ≡ side)
+  pub in_rank : InRank market side orders
 
 -- what is told of an order
 pub record Standing : Type 0 where
@@ -40,40 +43,45 @@ pub record Standing : Type 0 where
 -- places begin with 1
 abbrev pub index_of : ℕ → Option ℕ
 index_of zero = None
-index_of (suc k) = Some k
+index_of (suc index) = Some index
 
 -- what stands at a place of a list; nothing at place 0 or past the last
 abbrev pub at_place : {X : Type 0} → ℕ → List X → Option X
-at_place place xs = elim (index_of place) [ None ↦ None | Some k ↦ slice_get xs k ]
+at_place place items = elim (index_of place) [ None ↦ None | Some index ↦ slice_get items index ]
 
 abbrev pub standing_of : Market → Option Order → Option Standing
-standing_of m None = None
-standing_of m (Some o) = Some (record { number = o.number; ranked = ranked_in m o; reach = reach_in m o; left = o.left })
+standing_of market None = None
+standing_of market (Some order) =
+    Some (record { number = order.number; ranked = ranked_in market order; reach = reach_in market order; left = order.left })
 
--- r answers the question what stands on a side at a place; without a side nothing does
+-- the answer to the question what stands on a side at a place; without a side nothing does
 abbrev pub AnsweredOn : Market → Option Side → ℕ → Option Standing → Type 0
-AnsweredOn m None place r = r ≡ None
-AnsweredOn m (Some s) place r = (os : List Order) × Ranking m s os × (r ≡ standing_of m (at_place place os))
+AnsweredOn market None place answer = answer ≡ None
+AnsweredOn market (Some side) place answer =
+    (orders : List Order) × Ranking market side orders × (answer ≡ standing_of market (at_place place orders))
 
 -- the side is told by its code; no other code stands for one
 abbrev pub Answered : Market → ℕ → ℕ → Option Standing → Type 0
-Answered m code place r = AnsweredOn m (side_from code) place r
+Answered market code place answer = AnsweredOn market (side_from code) place answer
 
 -- a ranking, made by putting one order after another into its place
 unfoldable pub placed : Market → Side → Order → List Order → List Order
-placed m s o [] = o ∷ []
-placed m s o (x ∷ xs) = elim (ranks_before m s o x) [ true ↦ o ∷ (x ∷ xs) | false ↦ x ∷ placed m s o xs ]
+placed market side order [] = order ∷ []
+placed market side order (first ∷ others) =
+    if ranks_before market side order first then order ∷ (first ∷ others) else first ∷ placed market side order others
 
 unfoldable pub ranking_of : Market → Side → List Order → List Order
-ranking_of m s [] = []
-ranking_of m s (o ∷ os) = elim (same_side (side_of o) s) [ true ↦ placed m s o (ranking_of m s os) | false ↦ ranking_of m s os ]
+ranking_of market side [] = []
+ranking_of market side (order ∷ others) =
+    let rest = ranking_of market side others in
+    if same_side (side_of order) side then placed market side order rest else rest
 
 abbrev pub asked_on : Market → Option Side → ℕ → Option Standing
-asked_on m None place = None
-asked_on m (Some s) place = standing_of m (at_place place (ranking_of m s m.orders))
+asked_on market None place = None
+asked_on market (Some side) place = standing_of market (at_place place (ranking_of market side market.orders))
 
 abbrev pub asked : Market → ℕ → ℕ → Option Standing
-asked m code place = asked_on m (side_from code) place
+asked market code place = asked_on market (side_from code) place
 
 -- Why an order reaches as far as it does
 
@@ -97,28 +105,24 @@ is_mark Sell OfferDepleted = true
 
 -- after so many lines, the latest with the side's mark at place `found`: the place of the latest with the lines that follow
 abbrev pub latest_from : Side → ℕ → ℕ → List Line → ℕ
-latest_from s place found [] = found
-latest_from s place found (l ∷ ls) = latest_from s (place + 1) (cond (is_mark s l.mark) (place + 1) found) ls
+latest_from side place found [] = found
+latest_from side place found (line ∷ later) =
+    latest_from side (place + 1) (if is_mark side line.mark then place + 1 else found) later
 
 abbrev pub latest_mark : Side → List Line → ℕ
-latest_mark s tape = latest_from s 0 0 tape
+latest_mark side tape = latest_from side 0 0 tape
 
 abbrev pub protection : Market → Order → Option ℕ → Why
-protection m o None = discretion
-protection m o (Some e) = protected (latest_mark (side_of o) m.tape) e
+protection market order None = discretion
+protection market order (Some until) = protected (latest_mark (side_of order) market.tape) until
 
 unfoldable pub why : Market → Order → Why
-why m o =
-    elim (is_mdo o.terms.kind) [
-      | false ↦ no_mdo
-      | true ↦ elim (ranked_in m o == 2 * o.terms.limit) [
-        | true ↦ at_limit
-        | false ↦ elim (ranked_in m o == m.bid + m.offer) [
-          | true ↦ at_midpoint
-          | false ↦ elim o.terms.qdp [ false ↦ discretion | true ↦ protection m o (end_of (side_of o) m) ]
-        ]
-      ]
-    ]
+why market order =
+    if not (is_mdo order.terms.kind) then no_mdo
+    else if ranked_in market order == 2 * order.terms.limit then at_limit
+    else if ranked_in market order == market.bid + market.offer then at_midpoint
+    else if order.terms.qdp then protection market order (end_of (side_of order) market)
+    else discretion
 
 -- The close
 
@@ -129,16 +133,16 @@ pub record Figures : Type 0 where
   pub sell_shares : ℕ
 
 abbrev pub count_on : Side → List Order → ℕ
-count_on s os = count_by (λ o. same_side (side_of o) s) os
+count_on side orders = count_by (λ order. same_side (side_of order) side) orders
 
 abbrev pub shares_on : Side → List Order → ℕ
-shares_on s os = sum_by (λ o. cond (same_side (side_of o) s) o.left 0) os
+shares_on side orders = sum_by (λ order. if same_side (side_of order) side then order.left else 0) orders
 
 abbrev pub closing : Market → Figures
-closing m =
+closing market =
     record {
-      buys = count_on Buy m.orders;
-      buy_shares = shares_on Buy m.orders;
-      sells = count_on Sell m.orders;
-      sell_shares = shares_on Sell m.orders;
+      buys = count_on Buy market.orders;
+      buy_shares = shares_on Buy market.orders;
+      sells = count_on Sell market.orders;
+      sell_shares = shares_on Sell market.orders;
     }

@@ -19,8 +19,8 @@ pub record Run : Type 0 where
 
 -- the answers, in the calls' order, and the book at the end; the tape has room for so many lines in all
 unfoldable pub run : ℕ → List Call → Book → Run
-run room [] b = record { answers = []; book = b }
-run room (c ∷ cs) b =
-    let o : Outcome = call (room - length b.market.tape) c b in
-    let rest : Run = run room cs o.book in
-    record { answers = o.answer ∷ rest.answers; book = rest.book }
+run room [] book = record { answers = []; book = book }
+run room (next ∷ later) book =
+    let outcome : Outcome = call (room - length book.market.tape) next book in
+    let rest : Run = run room later outcome.book in
+    record { answers = outcome.answer ∷ rest.answers; book = rest.book }

@@ -1,7 +1,7 @@
 -- A draft whose codes are known is judged as the terms that they stand for. Cite codes_known, and apart where they
 -- are in range and do not go together.
 use Rattle.std.proofs.Common.{◌≡◌, ◌≤◌, ap, ◌∙◌, sym, Bool, true, false, arith, Some, None, Ok, Err, Option, Result}
-use Rattle.std.specs.Prelude.{ok_or}
+use Rattle.std.specs.Prelude.{not, ok_or, if◌then◌else◌}
 use Rattle.terms.specs.declared.side.Side.{Side}
 use Rattle.terms.specs.declared.kind.Kind.{Kind}
 use Rattle.terms.specs.declared.time_in_force.TimeInForce.{TimeInForce}
@@ -9,7 +9,9 @@ use Rattle.terms.specs.declared.ticket.Draft.{Draft}
 use Rattle.terms.specs.declared.refusal.Refusal.{Refusal}
 use Rattle.terms.specs.declared.refusal.Refusal.TheVariants.{UnknownCode, Shares, Limit, Offset, Combination}
 use Rattle.terms.specs.Codes.{side_from, kind_from, time_in_force_from, qdp_from}
-use Rattle.terms.specs.Terms.{OrderTerms, in_range, most_shares, top_price, offset_in_range, go_together, judged, ticket_from}
+use Rattle.terms.specs.Terms.{OrderTerms, in_range}
+use Rattle.terms.specs.Limits.{most_shares, top_price}
+use Rattle.terms.specs.Judging.{offset_in_range, go_together, judged, ticket_from}
 
 known : {A : Type 0} (o : Option A) (x : A) (e : Refusal) → Ok x ≡ ok_or o e → Some x ≡ o
 known None x e h = cc
@@ -17,7 +19,7 @@ known (Some y) x e h = cc
 
 abbrev by_tests : OrderTerms → Bool → Bool → Bool → Bool → Result OrderTerms Refusal
 by_tests w a b c d =
-    elim a as (λ _. Result OrderTerms Refusal) [ false ↦ Err Shares | true ↦ elim b as (λ _. Result OrderTerms Refusal) [ false ↦ Err Limit | true ↦ elim c as (λ _. Result OrderTerms Refusal) [ false ↦ Err Offset | true ↦ elim d as (λ _. Result OrderTerms Refusal) [ false ↦ Err Combination | true ↦ Ok w ] ] ] ]
+    if not a then Err Shares else if not b then Err Limit else if not c then Err Offset else if not d then Err Combination else Ok w
 
 pub apart : (w : OrderTerms) → (1 ≤ w.shares) × (w.shares ≤ most_shares) → (1 ≤ w.limit) × (w.limit ≤ top_price) → offset_in_range w.offset ≡ true → go_together w.side w.kind w.time_in_force w.qdp w.offset ≡ false → Err Combination ≡ judged w
 apart w s l o g =

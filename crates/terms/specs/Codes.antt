@@ -1,5 +1,5 @@
 -- The numbers that stand for words: codes of a ticket's parts, and the number of each refusal.
-use Rattle.std.specs.Prelude.{ℕ, Bool, true, false, cond, Some, None, Option, ◌==◌}
+use Rattle.std.specs.Prelude.{ℕ, Bool, true, false, Some, None, Option, ◌==◌, if◌then◌else◌}
 use Rattle.terms.specs.declared.side.Side.{Side}
 use Rattle.terms.specs.declared.side.Side.TheVariants.{Buy, Sell}
 use Rattle.terms.specs.declared.kind.Kind.{Kind}
@@ -29,19 +29,22 @@ qdp_code false = 0
 qdp_code true = 1
 
 abbrev pub side_from : ℕ → Option Side
-side_from c = cond (c == 1) (Some Buy) (cond (c == 2) (Some Sell) None)
+side_from code = if code == 1 then Some Buy else if code == 2 then Some Sell else None
 
 abbrev pub kind_from : ℕ → Option Kind
-kind_from c =
-    cond (c == 1) (Some DisplayedLimit)
-    (cond (c == 2) (Some HiddenLimit)
-    (cond (c == 3) (Some DisplayedMdo) (cond (c == 4) (Some HiddenMdo) (cond (c == 5) (Some MidpointPeg) None))))
+kind_from code =
+    if code == 1 then Some DisplayedLimit
+    else if code == 2 then Some HiddenLimit
+    else if code == 3 then Some DisplayedMdo
+    else if code == 4 then Some HiddenMdo
+    else if code == 5 then Some MidpointPeg
+    else None
 
 abbrev pub time_in_force_from : ℕ → Option TimeInForce
-time_in_force_from c = cond (c == 1) (Some Rest) (cond (c == 2) (Some ImmediateOrCancel) None)
+time_in_force_from code = if code == 1 then Some Rest else if code == 2 then Some ImmediateOrCancel else None
 
 abbrev pub qdp_from : ℕ → Option Bool
-qdp_from c = cond (c == 0) (Some false) (cond (c == 1) (Some true) None)
+qdp_from code = if code == 0 then Some false else if code == 1 then Some true else None
 
 abbrev pub refusal_number : Refusal → ℕ
 refusal_number refusal.UnknownCode = 1

@@ -1,8 +1,10 @@
 pub mod Sides
 pub mod Codes
+pub mod Limits
 pub mod Terms
 pub mod Prices
 pub mod Identifiers
+pub mod Judging
 pub mod Made
 pub mod Shown
 pub mod PerSide

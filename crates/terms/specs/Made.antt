@@ -7,26 +7,26 @@ use Rattle.terms.specs.declared.ticket.Ticket.{Ticket}
 use Rattle.terms.specs.Terms.{OrderTerms}
 
 abbrev pub terms_of : Terms → OrderTerms
-terms_of w =
+terms_of terms =
     record {
-      side = w.side;
-      kind = w.kind;
-      time_in_force = w.time_in_force;
-      qdp = w.qdp;
-      shares = w.shares;
-      limit = w.limit;
-      offset = w.offset;
+      side = terms.side;
+      kind = terms.kind;
+      time_in_force = terms.time_in_force;
+      qdp = terms.qdp;
+      shares = terms.shares;
+      limit = terms.limit;
+      offset = terms.offset;
     }
 
 abbrev pub ticket_terms : Ticket → OrderTerms
-ticket_terms t = terms_of t.terms
+ticket_terms ticket = terms_of ticket.terms
 
 -- a made ticket as its terms
 abbrev pub as_terms : Result Ticket Refusal → Result OrderTerms Refusal
-as_terms (Ok t) = Ok (ticket_terms t)
-as_terms (Err e) = Err e
+as_terms (Ok ticket) = Ok (ticket_terms ticket)
+as_terms (Err why) = Err why
 
 -- a quote as its two prices
 abbrev pub as_prices : Result Quote Refusal → Result (ℕ × ℕ) Refusal
-as_prices (Ok q) = Ok (q.bid, q.offer)
-as_prices (Err e) = Err e
+as_prices (Ok quote) = Ok (quote.bid, quote.offer)
+as_prices (Err why) = Err why

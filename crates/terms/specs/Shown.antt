@@ -28,6 +28,6 @@ refusal_words refusal.Quote = codes "quote not lawful"
 
 -- 1998 half-cents are 9.990 dollars
 abbrev pub in_dollars : ℕ → List ℕ
-in_dollars p =
-    decimal (p * 5 / 1000)
-    ++ (codes "." ++ (decimal (p * 5 / 100 % 10) ++ (decimal (p * 5 / 10 % 10) ++ decimal (p * 5 % 10))))
+in_dollars price =
+    decimal (price * 5 / 1000)
+    ++ (codes "." ++ (decimal (price * 5 / 100 % 10) ++ (decimal (price * 5 / 10 % 10) ++ decimal (price * 5 % 10))))

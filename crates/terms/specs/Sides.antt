@@ -15,15 +15,15 @@ same_side Sell Sell = true
 
 -- of two prices, the less aggressive one for the side: the lower for a buy, the higher for a sell
 abbrev pub tamer : Side → ℕ → ℕ → ℕ
-tamer Buy p q = min p q
-tamer Sell p q = max p q
+tamer Buy price other = min price other
+tamer Sell price other = max price other
 
--- an order of the side at price p meets or passes q
+-- an order of the side at the first price meets or passes the other
 abbrev pub meets : Side → ℕ → ℕ → Bool
-meets Buy p q = nat_le q p
-meets Sell p q = nat_le p q
+meets Buy price other = nat_le other price
+meets Sell price other = nat_le price other
 
--- for an order of the side, p is a better price to be ranked at than q
+-- for an order of the side, the first price is better to be ranked at than the other
 abbrev pub outranks : Side → ℕ → ℕ → Bool
-outranks Buy p q = nat_lt q p
-outranks Sell p q = nat_lt p q
+outranks Buy price other = nat_lt other price
+outranks Sell price other = nat_lt price other

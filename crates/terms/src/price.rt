@@ -4,7 +4,7 @@ ghost use Rattle.terms.specs.Made.{terms_of};
 ghost use Rattle.terms.specs.Prices.{limit_or_midpoint as limit_or_midpoint_of, peg as peg_of, ranked, reach as reach_of};
 ghost use Rattle.terms.specs.Shown.{in_dollars};
 ghost use Rattle.terms.specs.Sides.{tamer as tamer_of};
-ghost use Rattle.terms.specs.Terms.{offset_in_range};
+ghost use Rattle.terms.specs.Judging.{offset_in_range};
 
 use crate::kind::Kind;
 use crate::quote::Quote;

@@ -1,7 +1,8 @@
 // What an order says: the numbers that are handed over, and the ticket that they make, lawful by its type.
 ghost use Rattle.std.specs.Prelude.{ok_or, true, ◌≡◌, ◌≤◌};
 ghost use Rattle.terms.specs.Codes.{qdp_from};
-ghost use Rattle.terms.specs.Terms.{aggressive, go_together, offset_in_range};
+ghost use Rattle.terms.specs.Judging.{aggressive, go_together, offset_in_range};
+ghost use Rattle.terms.specs.Limits.{most_shares, top_price};
 
 use crate::kind::Kind;
 use crate::price::TOP_PRICE;
@@ -37,8 +38,8 @@ pub struct Terms {
     pub shares: u32,
     pub limit: u32,
     pub offset: i32,
-    ghost shares_lawful: { (1 ≤ shares) × (shares ≤ 1000000) },
-    ghost limit_lawful: { (1 ≤ limit) × (limit ≤ 2000000) },
+    ghost shares_lawful: { (1 ≤ shares) × (shares ≤ most_shares) },
+    ghost limit_lawful: { (1 ≤ limit) × (limit ≤ top_price) },
     ghost offset_lawful: { offset_in_range offset ≡ true },
     ghost parts_lawful: { go_together side kind time_in_force qdp offset ≡ true },
 }
@@ -87,7 +88,7 @@ fn parts_go_together(
 
 impl Ticket {
     ghost use Rattle.terms.specs.Made.{as_terms};
-    ghost use Rattle.terms.specs.Terms.{judged, ticket_from};
+    ghost use Rattle.terms.specs.Judging.{judged, ticket_from};
 
     // Codes are judged first, then shares, limit, offset, and whether the parts go together; the first fault is the refusal.
     pub fn new(draft: Draft) -> Result<Ticket, Refusal>

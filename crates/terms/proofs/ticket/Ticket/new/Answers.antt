@@ -2,7 +2,8 @@
 use Rattle.std.proofs.Common.{◌≡◌, Ok, Err, ◌∙◌, rules, arith}
 use Rattle.std.proofs.lemmas.Grind.{common_steps}
 use Rattle.terms.specs.declared.refusal.Refusal.TheVariants.{Combination}
-use Rattle.terms.specs.Terms.{OrderTerms, judged}
+use Rattle.terms.specs.Terms.{OrderTerms}
+use Rattle.terms.specs.Judging.{judged}
 use Rattle.terms.proofs.Judging.{codes_known, apart}
 use Rattle.terms.proofs.ticket.Ticket.new.Goals as goal
 
