@@ -6,7 +6,8 @@ use Rattle.tape.specs.declared.tape.Tape.{Ghosts as TapeOf}
 use Rattle.directory.specs.declared.directory.Directory.{Ghosts as DirectoryOf}
 use Rattle.rules.specs.Market.{Order, Book}
 use Rattle.rules.specs.Questions.{why}
-use Rattle.rules.specs.Laws.{Reason, DiscretionExplained, Uncrossed}
+use Rattle.rules.specs.Laws.{Reason}
+use Rattle.rules.specs.WholeDay.{DiscretionExplained, Uncrossed}
 use Rattle.rules.proofs.Marks.{tape_explains_discretion}
 use Rattle.rules.proofs.Members.{In, in_all}
 use Rattle.rules.proofs.Uncrossed.{never_crossed}

@@ -2,11 +2,11 @@
 use Rattle.std.proofs.Common.{◌≡◌, ℕ, List, sym, subst}
 use Rattle.rules.specs.Calls.{Call}
 use Rattle.rules.specs.Runs.{Run, opened, run}
-use Rattle.rules.specs.Laws.{AlikeButForTicks}
+use Rattle.rules.specs.WholeDay.{AlikeButForTicks}
 use Rattle.rules.proofs.Ticks.{ticks_change_only_the_clock}
 use Rattle.rules.proofs.Marks.{tape_explains_discretion}
 use Rattle.rules.proofs.Uncrossed.{never_crossed}
-use Rattle.book.specs.Law.{Lawful, Law}
+use Rattle.rules.specs.WholeDay.{Lawful, Law}
 
 pub lawful_of : (bid offer room : ℕ) (cs : List Call) (r : Run) → r ≡ run room cs (opened bid offer) → Lawful r
 lawful_of bid offer room cs r e =

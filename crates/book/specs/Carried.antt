@@ -6,7 +6,8 @@ use Rattle.rules.specs.declared.refusal.Refusal.{Refusal}
 use Rattle.rules.specs.declared.refusal.Refusal.TheVariants.{Time, TapeShort}
 use Rattle.rules.specs.Limits.{last_moment}
 use Rattle.rules.specs.Market.{Book}
-use Rattle.rules.specs.Answers.{Answer, entered, cancelled, quoted, ticked, refused, refusal_number, Told}
+use Rattle.rules.specs.Answers.{Answer, entered, cancelled, quoted, ticked, refused}
+use Rattle.rules.specs.Codes.{refusal_number, Told}
 use Rattle.rules.specs.Calls.{Call, Outcome, call, done_at, time_of, names_lawfully}
 use Rattle.market.specs.Changes.{AllRest}
 use Rattle.market.specs.Markets.{capacity_of, HasRoom}

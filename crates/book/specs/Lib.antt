@@ -2,7 +2,6 @@ pub mod Carried
 pub mod Closing
 pub mod Entering
 pub mod Explaining
-pub mod Law
 pub mod Opening
 pub mod Preparing
 pub mod Replayed

@@ -1,7 +1,8 @@
 -- A book as its callers see it: the rule book's book, and how many lines its tape has room for, written and free.
 use Rattle.std.specs.Prelude.{◌≡◌, ℕ, ◌-◌, List, length}
 use Rattle.rules.specs.Market.{Book}
-use Rattle.rules.specs.Answers.{Answer, Told, told}
+use Rattle.rules.specs.Answers.{Answer}
+use Rattle.rules.specs.Codes.{Told, told}
 use Rattle.rules.specs.Calls.{Call, Outcome, call}
 use Rattle.rules.specs.Runs.{opened, run}
 use Rattle.tape.specs.declared.tape.Tape.{Ghosts as TapeOf}

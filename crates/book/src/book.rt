@@ -10,7 +10,7 @@ ghost use Rattle.market.specs.Rows.{row_order};
 ghost use Rattle.roll.specs.Rolls.{at_place};
 ghost use Rattle.rules.specs.Calls.{cancel as cancel_of, entry as entry_of, named, quote as quote_of, tick as tick_of};
 ghost use Rattle.rules.specs.Growth.{TapeGrows};
-ghost use Rattle.rules.specs.Laws.{DiscretionExplained, Uncrossed};
+ghost use Rattle.rules.specs.WholeDay.{DiscretionExplained, Uncrossed};
 ghost use Rattle.rules.specs.Questions.{Answered, closing};
 ghost use Rattle.terms.specs.Made.{ticket_terms};
 

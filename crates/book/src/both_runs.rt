@@ -1,5 +1,5 @@
 ghost use Rattle.std.specs.Prelude.{IfErr, IfOk};
-ghost use Rattle.book.specs.Law.{Law};
+ghost use Rattle.rules.specs.WholeDay.{Law};
 ghost use Rattle.book.specs.Replayed.{run_of};
 ghost use Rattle.book.specs.Reran.{AllHandedBack, PlayedThrough};
 ghost use Rattle.book.specs.Told.{calls_of};

@@ -28,7 +28,7 @@ impl Call {
     ghost use Rattle.std.specs.Prelude.{IfOk, [], false, true, ◌∷◌, ◌≡◌};
     ghost use Rattle.book.specs.Told.{call_of};
     ghost use Rattle.rules.specs.Calls.{time_of};
-    ghost use Rattle.rules.specs.Laws.{shared};
+    ghost use Rattle.rules.specs.WholeDay.{shared};
 
     pub fn time(&self) -> u64
         ensures { result ≡ time_of (call_of self.now) }

@@ -2,7 +2,7 @@
 use Rattle.std.specs.Prelude.{ℕ, List, codes}
 use Rattle.register.specs.Reports.{told}
 use Rattle.register.specs.Faults.{fault_number, fault_layer, fault_place, fault_words}
-use Rattle.rules.specs.Answers.{refusal_number}
+use Rattle.rules.specs.Codes.{refusal_number}
 use Rattle.rules.specs.Words.{refusal_words}
 use Rattle.book_register.specs.declared.load.LoadFault.{LoadFault}
 use Rattle.book_register.specs.declared.load.LoadFault.TheVariants.{Register, SlipsFull, Book}

@@ -1,7 +1,8 @@
 -- The number that a day file tells of a refusal.
 use Rattle.std.specs.Prelude.{ℕ}
 use Rattle.terms.specs.Codes.{refusal_number as ticket_number}
-use Rattle.rules.specs.Answers.{refused, told}
+use Rattle.rules.specs.Answers.{refused}
+use Rattle.rules.specs.Codes.{told}
 use Rattle.day_file.specs.declared.refused.Refused.{Refused}
 use Rattle.day_file.specs.declared.refused.Refused.TheVariants.{Unlawful, Book}
 

@@ -2,7 +2,8 @@ ghost use Rattle.std.specs.Option.{option_map};
 ghost use Rattle.std.specs.Prelude.{◌≡◌};
 ghost use Rattle.market.specs.Rows.{row_order};
 ghost use Rattle.market.specs.Seen.{orders_of, seen};
-ghost use Rattle.rules.specs.Priority.{ahead as ahead_of, class_number, is_partner as is_partner_of, line_class as line_class_of, line_price as line_price_of, next_partner as next_partner_of, partner_for as partner_for_of};
+ghost use Rattle.rules.specs.Codes.{class_number};
+ghost use Rattle.rules.specs.Priority.{ahead as ahead_of, is_partner as is_partner_of, line_class as line_class_of, line_price as line_price_of, next_partner as next_partner_of, partner_for as partner_for_of};
 ghost use Rattle.terms.specs.Sides.{meets as meets_of, opposite as opposite_of, outranks as outranks_of};
 
 use crate::row::Row;

@@ -5,7 +5,8 @@ ghost use Rattle.market.specs.Ranks.{NextRanked, comes_after as comes_after_of};
 ghost use Rattle.market.specs.Rows.{rests, row_order};
 ghost use Rattle.market.specs.Seen.{market_with, orders_of, seen};
 ghost use Rattle.rules.specs.Market.{ranked_in};
-ghost use Rattle.rules.specs.Priority.{class_number, class_of};
+ghost use Rattle.rules.specs.Priority.{class_of};
+ghost use Rattle.rules.specs.Codes.{class_number};
 ghost use Rattle.rules.specs.Questions.{Answered, at_place, ranking_of, ranks_before as ranks_before_of};
 ghost use Rattle.tape.specs.declared.line.Line.{Line};
 

@@ -1,22 +1,10 @@
 -- Cases of a test and of an option, with what they tell. Where a definition branches by `if` or `elim`, a fact P of it follows from P
 -- of each branch. Cite: if_both, option_both with the P written out; the others where an equation is wanted.
 use Rattle.std.proofs.Common.{◌≡◌, ℕ, Bool, true, false, ◌⊎◌, Some, None, Option, refl, inl, inr, arith}
-use Rattle.std.specs.Prelude.{not, if◌then◌else◌}
+pub use Rattle.std.proofs.lemmas.Bool.{cond_both as if_both, cond-true as if_true, cond-false as if_false}
+use Rattle.std.specs.Prelude.{not}
 use Rattle.rules.specs.declared.refusal.Refusal.{Refusal}
 use Rattle.rules.specs.Answers.{refused}
-use Rattle.rules.specs.Questions.{why}
-
-pub if_both : {A : Type 0} (b : Bool) (x y : A) (P : A → Type 0) → (b ≡ true → P x) → (b ≡ false → P y) → P (if b then x else y)
-if_both true x y P f g = f refl
-if_both false x y P f g = g refl
-
-pub if_true : {A : Type 0} (b : Bool) (x y : A) → b ≡ true → (if b then x else y) ≡ x
-if_true true x y e = refl
-if_true false x y e = cc
-
-pub if_false : {A : Type 0} (b : Bool) (x y : A) → b ≡ false → (if b then x else y) ≡ y
-if_false false x y e = refl
-if_false true x y e = cc
 
 pub not_false : (b : Bool) → not b ≡ true → b ≡ false
 not_false false e = refl

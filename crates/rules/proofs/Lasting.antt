@@ -12,7 +12,8 @@ use Rattle.terms.specs.declared.time_in_force.TimeInForce.{TimeInForce}
 use Rattle.terms.specs.declared.time_in_force.TimeInForce.TheVariants.{ImmediateOrCancel, Rest}
 use Rattle.rules.specs.declared.refusal.Refusal.{Refusal}
 use Rattle.rules.specs.declared.refusal.Refusal.TheVariants.{NameTaken, BookFull, EntriesSpent, NoSuchOrder, Identifier, Time, TapeShort}
-use Rattle.rules.specs.Answers.{after_clock, cancelled}
+use Rattle.rules.specs.Answers.{cancelled}
+use Rattle.rules.specs.Laws.{after_clock}
 use Rattle.rules.specs.Calls.{Outcome, refuse, no_place, rested, swept_in, new_order, enter_at, named, cancel, cancel_at, call, Call, time_of, done_at, names_lawfully, timely, quote, requoted, entry, tick}
 use Rattle.rules.specs.Clock.{due, end_period, end_periods, at_time, settle}
 use Rattle.rules.specs.Limits.{most_entries}

@@ -13,7 +13,8 @@ use Rattle.tape.specs.declared.line.Mark.{Mark}
 use Rattle.tape.specs.declared.line.Mark.TheVariants.{BidDepleted, OfferDepleted, Nothing}
 use Rattle.rules.specs.Calls.{swept_in, joined, follows_quote, Call}
 use Rattle.rules.specs.Clock.{due, end_period, protected_on, settle}
-use Rattle.rules.specs.Laws.{Protected, TapeExplainsDiscretion}
+use Rattle.rules.specs.Laws.{TapeExplainsDiscretion}
+use Rattle.rules.specs.WholeDay.{Protected}
 use Rattle.rules.specs.Limits.{protection_period}
 use Rattle.rules.specs.Market.{Market, with_line, with_end, Order, side_of, with_orders, with_quote, lower, end_of, those, without, period_runs, Book, ranked_in, reach_in}
 use Rattle.rules.specs.Priority.{line_price}

@@ -6,10 +6,10 @@ use Rattle.terms.specs.declared.time_in_force.TimeInForce.{TimeInForce}
 use Rattle.terms.specs.declared.time_in_force.TimeInForce.TheVariants.{Rest, ImmediateOrCancel}
 use Rattle.rules.specs.declared.refusal.Refusal.{Refusal}
 use Rattle.rules.specs.declared.refusal.Refusal.TheVariants.{Time, Identifier, TapeShort}
-use Rattle.rules.specs.Answers.{refused, after_clock}
+use Rattle.rules.specs.Answers.{refused}
+use Rattle.rules.specs.Laws.{after_clock, RefusalLeaves, left_by}
 use Rattle.rules.specs.Calls.{refuse, Call, done_at, entry, rested, swept_in, new_order, cancel, quote, tick, names_lawfully, timely, call, Outcome, time_of}
 use Rattle.rules.specs.Clock.{at_time}
-use Rattle.rules.specs.Laws.{RefusalLeaves, left_by}
 use Rattle.rules.specs.Market.{Book}
 use Rattle.rules.specs.Questions.{why}
 use Rattle.rules.proofs.Cases.{same_refusal, Either}

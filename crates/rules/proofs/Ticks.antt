@@ -10,7 +10,8 @@ use Rattle.rules.specs.declared.refusal.Refusal.TheVariants.{TapeShort, Identifi
 use Rattle.rules.specs.Answers.{refused}
 use Rattle.rules.specs.Calls.{Call, done_at, time_of, Outcome, call, timely, refuse, names_lawfully, tick, entry, cancel, quote}
 use Rattle.rules.specs.Clock.{at_time}
-use Rattle.rules.specs.Laws.{shared, answers_to_shared, TicksInTime, TapeNeverShort, TicksChangeOnlyTheClock}
+use Rattle.rules.specs.Laws.{TicksChangeOnlyTheClock}
+use Rattle.rules.specs.WholeDay.{shared, answers_to_shared, TicksInTime, TapeNeverShort}
 use Rattle.rules.specs.Limits.{last_moment}
 use Rattle.rules.specs.Market.{Book}
 use Rattle.rules.specs.Runs.{Run, run, opened}

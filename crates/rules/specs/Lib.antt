@@ -4,9 +4,11 @@ pub mod Priority
 pub mod Sweep
 pub mod Clock
 pub mod Answers
+pub mod Codes
 pub mod Calls
 pub mod Questions
 pub mod Runs
+pub mod WholeDay
 pub mod Growth
 pub mod Laws
 pub mod Finished

@@ -5,8 +5,6 @@ use Rattle.terms.specs.declared.side.Side.{Side}
 use Rattle.terms.specs.declared.kind.Kind.{Kind}
 use Rattle.terms.specs.declared.kind.Kind.TheVariants.{DisplayedLimit, HiddenLimit, DisplayedMdo, HiddenMdo, MidpointPeg}
 use Rattle.terms.specs.Sides.{opposite, same_side, meets, outranks}
-use Rattle.rules.specs.declared.priority.Class.{Class}
-use Rattle.rules.specs.declared.priority.Class.TheVariants.{Displayed, Hidden, Midpoint, Away}
 use Rattle.rules.specs.Market.{Order, Market, side_of, ranked_in, reach_in}
 
 -- 1 displayed, 2 hidden limit or hidden MDO, 3 midpoint peg
@@ -16,13 +14,6 @@ class_of HiddenLimit = 2
 class_of DisplayedMdo = 1
 class_of HiddenMdo = 2
 class_of MidpointPeg = 3
-
--- the number of a class in the code's words
-abbrev pub class_number : Class → ℕ
-class_number Displayed = 1
-class_number Hidden = 2
-class_number Midpoint = 3
-class_number Away = 4
 
 -- an order of the side whose reach meets or passes the taker's price
 abbrev pub is_partner : Market → Side → ℕ → Order → Bool

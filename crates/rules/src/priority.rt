@@ -1,7 +1,8 @@
 // Who goes first: the keys by which partners are chosen and a side is ranked.
 ghost use Rattle.std.specs.Prelude.{◌≡◌};
 ghost use Rattle.rules.specs.Laws.{BestPartner, OneAnswer, OneRanking};
-ghost use Rattle.rules.specs.Priority.{away_class, class_number, class_of, goes_first};
+ghost use Rattle.rules.specs.Priority.{away_class, class_of, goes_first};
+ghost use Rattle.rules.specs.Codes.{class_number};
 ghost use Rattle.rules.specs.Questions.{index_of};
 
 use terms::{Kind, Side};

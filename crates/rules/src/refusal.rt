@@ -1,8 +1,8 @@
 // Why a call of the book is refused, and what that leaves.
 ghost use Rattle.std.specs.Fmt.{padded};
 ghost use Rattle.std.specs.Prelude.{Some, ◌≡◌};
-ghost use Rattle.rules.specs.Answers.{after_clock, refusal_number};
-ghost use Rattle.rules.specs.Laws.{RefusalLeaves};
+ghost use Rattle.rules.specs.Laws.{after_clock, RefusalLeaves};
+ghost use Rattle.rules.specs.Codes.{refusal_number};
 ghost use Rattle.rules.specs.Words.{refusal_words};
 
 use std::error::Error;

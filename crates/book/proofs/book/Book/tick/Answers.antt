@@ -1,6 +1,6 @@
 use Rattle.std.proofs.Common.{◌≡◌, Ok, Err, Result, refl, ap, ◌∙◌}
 use Rattle.rules.specs.declared.refusal.Refusal.{Refusal}
-use Rattle.rules.specs.Answers.{told as told_answer}
+use Rattle.rules.specs.Codes.{told as told_answer}
 use Rattle.rules.specs.Calls.{tick}
 use Rattle.book.specs.Carried.{Carried, plain_numbers, tick_answer}
 use Rattle.book.proofs.Calling.{tick_carried}

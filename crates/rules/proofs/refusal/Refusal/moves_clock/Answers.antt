@@ -1,6 +1,5 @@
 use Rattle.std.proofs.Common.{◌≡◌, sym, subst, rules}
-use Rattle.rules.specs.Answers.{after_clock}
-use Rattle.rules.specs.Laws.{RefusalLeaves}
+use Rattle.rules.specs.Laws.{after_clock, RefusalLeaves}
 use Rattle.rules.proofs.Refusals.{refusal_leaves}
 use Rattle.rules.proofs.refusal.Refusal.moves_clock.Goals as goal
 
