@@ -10,7 +10,7 @@ use Rattle.std.specs.Prelude.{if◌then◌else◌}
 use Rattle.terms.specs.Identifiers.{lawful_identifier}
 use Rattle.directory.specs.declared.directory.PutRefusal.{PutRefusal}
 use Rattle.directory.specs.declared.directory.PutRefusal.TheVariants.{Unlawful, Held, Full}
-use Rattle.directory.specs.Pairs.{Added, RefusedPut, put_refusal}
+use Rattle.directory.specs.Pairs.{Added, RefusedPut, most_pairs, put_refusal}
 use Rattle.directory.proofs.Distinct.{bytes_apart}
 use Rattle.std.specs.Str.{bytes_eq}
 use Rattle.rules.proofs.Cases.{if_true, none_some}
@@ -73,13 +73,13 @@ module _ (r : Row) where
 -- a lawful name that is not held finds its place while one is free
 pub put_added : (r : Result (Unit {0}) PutRefusal) (id : List ℕ) (n : ℕ) (was is : List ℕ → Option ℕ) (had has : ℕ)
     → MatchResult r (λ _. Added id n was had is has) (λ why. RefusedPut why id was had is has)
-    → lawful_identifier id ≡ true → was id ≡ None → had < 64 → Added id n was had is has
+    → lawful_identifier id ≡ true → was id ≡ None → had < most_pairs → Added id n was had is has
 put_added (Ok u) id n was is had has added lawful fresh free = added
 put_added (Err why) id n was is had has refused lawful fresh free =
     absurd (none_some (put_refusal id (was id) had) why
-    (ap (λ z. elim z as (λ _. Option PutRefusal) [ false ↦ Some Unlawful | true ↦ elim (was id) as (λ _. Option PutRefusal) [ Some n ↦ Some Held | None ↦ elim (ltb had 64) [ false ↦ Some Full | true ↦ None ] ] ]) lawful
-    ∙ ap (λ (z : Option ℕ). elim z as (λ _. Option PutRefusal) [ Some n ↦ Some Held | None ↦ elim (ltb had 64) [ false ↦ Some Full | true ↦ None ] ]) fresh
-    ∙ ap (λ z. elim z as (λ _. Option PutRefusal) [ false ↦ Some Full | true ↦ None ]) (lt-ltb had 64 free))
+    (if_true (lawful_identifier id) _ (Some Unlawful) lawful
+    ∙ ap (λ (z : Option ℕ). elim z as (λ _. Option PutRefusal) [ Some n ↦ Some Held | None ↦ if ltb had most_pairs then None else Some Full ]) fresh
+    ∙ if_true (ltb had most_pairs) None (Some Full) (lt-ltb had most_pairs free))
     refused.because)
 
 -- The newest row, whatever is left of it

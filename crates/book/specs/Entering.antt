@@ -1,6 +1,7 @@
 -- An entry, step by step: the tests once the clock is at its time, and what comes of the new order's row.
 use Rattle.std.specs.Prelude.{◌≡◌, ℕ, ◌+◌, ◌<◌, ◌≤◌, Bool, true, false, List, is_some, None, Ok, Err, Result, nat_le}
 use Rattle.terms.specs.Terms.{OrderTerms}
+use Rattle.directory.specs.Pairs.{most_pairs}
 use Rattle.tape.specs.declared.tape.Tape.{Ghosts as TapeOf}
 use Rattle.directory.specs.declared.directory.Directory.{Ghosts as DirectoryOf}
 use Rattle.rules.specs.declared.refusal.Refusal.{Refusal}
@@ -43,7 +44,7 @@ pub record Ready {D T : Type 0} (directory_make : DirectoryOf D) (tape_make : Ta
 -- the directory takes the new row's pair
 pub record HasPlace {D T : Type 0} (directory_make : DirectoryOf D) (engine : Engine D T) (row : Row) : Type 0 where
   pub fresh : directory_make.number engine.directory (row_name row) ≡ None
-  pub free : directory_make.count engine.directory < 64
+  pub free : directory_make.count engine.directory < most_pairs
 
 -- the order is entered: entry number, shares traded, shares lapsed, and the market as the rule book leaves it
 pub record Entered {D T : Type 0} (directory_make : DirectoryOf D) (tape_make : TapeOf T) (before after : Engine D T) (outcome : Outcome) (entry : ℕ × ℕ × ℕ) : Type 0 where

@@ -6,3 +6,4 @@ mod Slots
 mod Gap
 mod Look
 mod Tables
+mod Meaning

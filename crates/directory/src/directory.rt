@@ -1,5 +1,5 @@
-ghost use Rattle.std.specs.Prelude.{◌≤◌, List, MatchOption, MatchResult, Option as Maybe, ℕ, ◌≡◌};
-ghost use Rattle.directory.specs.Pairs.{Added, Emptied, Kept, RefusedPut, Removed};
+ghost use Rattle.std.specs.Prelude.{List, MatchOption, MatchResult, Option as Maybe, ℕ, ◌≡◌};
+ghost use Rattle.directory.specs.Pairs.{Added, Emptied, HasPairs, Kept, RefusedPut, Removed};
 
 use std::error::Error;
 use std::fmt;
@@ -35,7 +35,7 @@ impl fmt::Display for PutRefusal {
 
 impl Error for PutRefusal {}
 
-// A directory is a set of at most 64 pairs, a whole identifier and an entry number, no identifier in two of them.
+// A directory is a list of at most 64 pairs, a whole lawful identifier and an entry number, no identifier in two of them.
 // `number` is the entry number of an identifier, if it is held, and `count` is how many pairs there are.
 pub trait Directory {
     ghost number: { Self → List ℕ → Maybe ℕ };
@@ -45,7 +45,7 @@ pub trait Directory {
     // How many pairs there are.
     fn len(&self) -> usize
         ensures told { result ≡ count self.now }
-        ensures few { count self.now ≤ 64 };
+        ensures means { HasPairs (number self.now) (count self.now) };
 
     // The entry number of an identifier, or none.
     fn find(&self, id: &[u8]) -> Option<u32>

@@ -1,6 +1,7 @@
 ghost use Rattle.std.specs.Prelude.{length, true, vec_len, ◌≡◌, ◌≤◌};
 ghost use Rattle.directory.specs.Entries.{distinct};
-ghost use Rattle.directory.specs.Table.{Chained, entries_in};
+ghost use Rattle.directory.specs.Pairs.{most_pairs};
+ghost use Rattle.directory.specs.Table.{Chained, entries_in, place_count};
 
 use crate::directory::{CAPACITY, Directory, PutRefusal};
 use crate::entry::{Entry, is_of};
@@ -24,9 +25,9 @@ pub(crate) enum Spot {
 pub struct HashedDirectory {
     pub(crate) places: Vec<Option<Entry>>,
     pub(crate) held: usize,
-    ghost whole: { vec_len places ≡ 128 },
+    ghost whole: { vec_len places ≡ place_count },
     ghost counted: { held ≡ length (entries_in places.items) },
-    ghost few: { held ≤ 64 },
+    ghost few: { held ≤ most_pairs },
     ghost apart: { distinct (entries_in places.items) ≡ true },
     ghost chained: { Chained places.items },
 }

@@ -1,6 +1,6 @@
 ghost use Rattle.std.specs.Prelude.{◌<◌, ◌≡◌};
 ghost use Rattle.directory.specs.Entries.{entry_id};
-ghost use Rattle.directory.specs.Table.{Closed, Gapped, home_place as home_place_of, steps};
+ghost use Rattle.directory.specs.Table.{Closed, Gapped, home_place as home_place_of, place_count, steps};
 
 use crate::entry::Entry;
 use crate::hashed_directory::PLACES;
@@ -8,7 +8,7 @@ use crate::hashed_directory::PLACES;
 // The place where a look for an identifier begins, from 0 to 127. Every byte counts.
 pub fn home_place(id: &[u8]) -> usize
     ensures value { result ≡ home_place_of id.now }
-    ensures within { result < 128 }
+    ensures within { result < place_count }
 {
     let hash = id.iter().fold(
         0,
@@ -19,14 +19,14 @@ pub fn home_place(id: &[u8]) -> usize
 
 fn home_of(entry: &Entry) -> usize
     ensures value { result ≡ home_place_of (entry_id entry.now) }
-    ensures within { result < 128 }
+    ensures within { result < place_count }
 {
     home_place(entry.id.as_bytes())
 }
 
 // How many places on from one place another lies, going round.
 fn steps_between(from: usize, to: usize) -> usize
-    requires { (from < 128) × (to < 128) }
+    requires { (from < place_count) × (to < place_count) }
     ensures { result ≡ steps from to }
 {
     (to + PLACES - from) % PLACES

@@ -77,10 +77,11 @@ impl Model for RowDirectory {
     ghost use Rattle.std.specs.Prelude.{◌≡◌, ◌≤◌, List, true, vec_len, vec_capacity};
     ghost use Rattle.directory.specs.declared.entry.Entry.{Entry as Pair};
     ghost use Rattle.directory.specs.Entries.{distinct};
+    ghost use Rattle.directory.specs.Pairs.{most_pairs};
 
     ghost Value = { List Pair };
 
     ghost view = { λ d. d.rows.items };
 
-    ghost invariant = { λ d. (64 ≤ vec_capacity d.rows) × (vec_len d.rows ≤ 64) × (distinct d.rows.items ≡ true) };
+    ghost invariant = { λ d. (most_pairs ≤ vec_capacity d.rows) × (vec_len d.rows ≤ most_pairs) × (distinct d.rows.items ≡ true) };
 }
