@@ -1,13 +1,14 @@
 -- What putting and dropping a pair does to the numbers, in the words of the directory's contract, for a list of pairs
 -- that the pair joins or leaves between `xs` and `ys`. Cite `pair_here`, `pair_others`, `pair_found`.
 use Rattle.std.proofs.Common.{◌≡◌, ℕ, true, false, cond, ltb, List, ◌∷◌, ◌++◌, is_some, Some, None, Option, sym, refl, ap, ◌∙◌}
-use Rattle.std.proofs.lemmas.Bool.{both_ways}
+use Rattle.std.proofs.lemmas.Bool.{both_ways, cond-true}
+use Rattle.std.specs.Prelude.{if◌then◌else◌}
 use Rattle.std.proofs.lemmas.Slice.Eq.{bytes_eq-Decides}
 use Rattle.terms.specs.Identifiers.{lawful_identifier}
 use Rattle.directory.specs.declared.entry.Entry.{Entry}
 use Rattle.directory.specs.Entries.{entry_id, number_in, distinct}
 use Rattle.directory.specs.declared.directory.PutRefusal.TheVariants.{Unlawful, Held, Full}
-use Rattle.directory.specs.Pairs.{put_refusal}
+use Rattle.directory.specs.Pairs.{most_pairs, put_refusal}
 use Rattle.directory.proofs.Distinct.{number_between, distinct_without, bytes_apart}
 
 module _ (xs ys : List Entry) (e : Entry) where
@@ -27,11 +28,10 @@ module _ (xs ys : List Entry) (e : Entry) where
 
 -- an identifier that is held is refused as such
 pub held_refused : (id : List ℕ) (found : Option ℕ) (had : ℕ) → lawful_identifier id ≡ true → is_some found ≡ true → put_refusal id found had ≡ Some Held
-held_refused id found had lawful held =
-    ap (λ b. elim b [ false ↦ Some Unlawful | true ↦ elim found [ Some n ↦ Some Held | None ↦ elim (ltb had 64) [ false ↦ Some Full | true ↦ None ] ] ]) lawful
-    ∙ by_case found held
+held_refused id found had lawful held = cond-true (lawful_identifier id) _ (Some Unlawful) lawful ∙ by_case found held
   where
-    by_case : (o : Option ℕ) → is_some o ≡ true → elim o [ Some n ↦ Some Held | None ↦ elim (ltb had 64) [ false ↦ Some Full | true ↦ None ] ] ≡ Some Held
+    by_case : (o : Option ℕ) → is_some o ≡ true
+        → elim o [ Some n ↦ Some Held | None ↦ if ltb had most_pairs then None else Some Full ] ≡ Some Held
     by_case (Some n) h = refl
     by_case None h = absurd (both_ways true (sym h) refl)
 

@@ -1,6 +1,6 @@
 -- What a directory is: a list of pairs. Each call says what it leaves in words of the number that each identifier has:
 -- `was` and `had` are the numbers and the count of pairs before the call, `is` and `has` those after it.
-use Rattle.std.specs.Prelude.{◌≡◌, ℕ, ◌+◌, ◌<◌, ◌≤◌, Bool, true, false, not, ◌&&◌, List, [], ◌∷◌, length, is_some, Some, None, Option, ◌≢◌, nat_lt, if◌then◌else◌}
+use Rattle.std.specs.Prelude.{◌≡◌, ℕ, ◌+◌, ◌<◌, ◌≤◌, Bool, true, not, ◌&&◌, List, [], ◌∷◌, length, is_some, Some, None, Option, ◌≢◌, nat_lt, if◌then◌else◌}
 use Rattle.std.specs.List.{list_all}
 use Rattle.std.specs.Str.{bytes_eq}
 use Rattle.terms.specs.Identifiers.{lawful_identifier}
