@@ -1,7 +1,23 @@
-// Files that are written whole or not at all.
+// The two commands that reach files. A file is written whole or not at all.
+use anyhow::Context;
+use day_file::{Desk, Output};
+use directory::Directory;
 use std::fs::{File, Permissions};
 use std::io::{ErrorKind, Write};
 use std::{fs, io};
+use tape::Tape;
+
+pub fn load<D: Directory, T: Tape>(
+    rt: &HostRuntime,
+    line: u64,
+    desk: &mut Desk<D, T>,
+    time: u64,
+    file: &str,
+    out: &mut Output,
+) -> anyhow::Result<()> {
+    let register = fs::read(rt, file).context(format_args!("line {line}: cannot read {file}"))?;
+    Ok(desk.load(time, register.as_slice(), out)?)
+}
 
 // Writes into the file, which is opened; its bytes are on the disk before it is closed.
 fn fill(mut file: File, bytes: &[u8], mode: Option<Permissions>) -> io::Result<()> {
@@ -30,7 +46,7 @@ fn replace_whole(
 
 // Puts the bytes in the place of what the file held. It is opened first as if it were written in place, so that it is refused where
 // it may not be written. A link stays, and what it names is replaced; what is no plain file, as a terminal or a pipe, is written.
-pub fn replace(rt: &HostRuntime, path: &str, bytes: &[u8]) -> io::Result<()> {
+fn replace(rt: &HostRuntime, path: &str, bytes: &[u8]) -> io::Result<()> {
     let mut file = match File::options().write(true).open(rt, path) {
         Ok(file) => file,
         Err(e) if e.kind() == ErrorKind::NotFound => return replace_whole(rt, path, bytes, None),
@@ -43,4 +59,24 @@ pub fn replace(rt: &HostRuntime, path: &str, bytes: &[u8]) -> io::Result<()> {
     let mode = Some(there.permissions());
     let named = fs::canonicalize(rt, path)?;
     replace_whole(rt, named.as_path().as_str(), bytes, mode)
+}
+
+// A register of 64 orders fits: each takes at most 49 bytes. It is told once it stands in the file.
+pub fn write<D: Directory, T: Tape>(
+    rt: &HostRuntime,
+    line: u64,
+    desk: &Desk<D, T>,
+    file: &str,
+    out: &mut Output,
+) -> anyhow::Result<()> {
+    let mut buffer = [0u8; 4096];
+    let written = match desk.write(&mut buffer) {
+        Ok(written) => written,
+        Err(no_room) => return Ok(out.line("refused", &[u64::from(no_room.number())])?),
+    };
+    let register = buffer
+        .get(0..written)
+        .context("the register is longer than its buffer")?;
+    replace(rt, file, register).context(format_args!("line {line}: cannot write {file}"))?;
+    Ok(out.line("written", &[written as u64])?)
 }

@@ -1,6 +1,6 @@
 // What the arguments ask for.
-use crate::options::read_makes;
-use day_file::Makes;
+use anyhow::bail;
+use day_file::{DirectoryMake, Makes, TapeMake};
 
 pub const HELP: &str = "\
 usage: day [--directory rows|hashed] [--tape records|bytes] < DAYFILE
@@ -27,6 +27,30 @@ pub enum Request {
     Help,
     Version,
     Answer(Makes),
+}
+
+fn set(makes: &mut Makes, name: &str, value: &str) -> anyhow::Result<()> {
+    match (name, DirectoryMake::named(value), TapeMake::named(value)) {
+        ("--directory", Some(make), _) => makes.directory = make,
+        ("--tape", _, Some(make)) => makes.tape = make,
+        _ => bail!(
+            "usage: day [--directory rows|hashed] [--tape records|bytes] < DAYFILE; not '{name} {value}'"
+        ),
+    }
+    Ok(())
+}
+
+// Names and values in turn.
+fn read_makes(args: &[String]) -> anyhow::Result<Makes> {
+    let mut makes = Makes::default();
+    for pair in args.chunks(2) {
+        match pair {
+            [name, value] => set(&mut makes, name.as_str(), value.as_str())?,
+            [name] => set(&mut makes, name.as_str(), "")?,
+            _ => {}
+        }
+    }
+    Ok(makes)
 }
 
 impl Request {

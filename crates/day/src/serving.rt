@@ -1,16 +1,63 @@
-// The commands after the first, on a book of any makes.
-use crate::input::Input;
-use crate::registers::{load, write};
-use day_file::{Command, Desk, Frame, Output, Serve};
+// The day file on standard input, and a book of any makes that answers it.
+use crate::files::{load, write};
+use anyhow::Context;
+use day_file::{Command, Desk, Frame, Opening, Output, Serve};
 use directory::Directory;
 use std::io;
-use std::io::Write;
+use std::io::{BufRead, BufReader, Stdin, Write};
 use std::ops::ControlFlow;
 use tape::Tape;
 
 // So much is gathered before it is printed, where more input is at hand.
 const GATHERED: usize = 65536;
 
+// The lines of standard input.
+#[derive(Drop)]
+pub struct Input {
+    reader: BufReader<Stdin>,
+    text: Vec<u8>,
+}
+
+impl Input {
+    pub fn new(rt: &HostRuntime) -> io::Result<Input> {
+        Ok(Input {
+            reader: BufReader::new(rt.alloc(), rt.stdin())?,
+            text: Vec::new(rt.alloc()),
+        })
+    }
+
+    // Reads the next line; None at the end.
+    fn next_line(&mut self) -> anyhow::Result<Option<&[u8]>> {
+        self.text.clear();
+        let count = self
+            .reader
+            .read_until(b'\n', &mut self.text)
+            .context("cannot read standard input")?;
+        Ok((count > 0).then_some(self.text.as_slice()))
+    }
+
+    // Nothing more has come yet, so that reading on may have to wait.
+    fn may_wait(&self) -> bool {
+        self.reader.buffer().is_empty()
+    }
+
+    // Reads up to the command that opens the book; None where the input ends before.
+    pub fn opening(&mut self, frame: &mut Frame) -> anyhow::Result<Option<Opening>> {
+        // Nothing grows smaller while input is waited for: the lines are counted, so that the loop ends.
+        for _ in 0..u64::MAX {
+            let Some(line) = self.next_line()? else {
+                break;
+            };
+            let opening = frame.opening(line)?;
+            if opening.is_some() {
+                return Ok(opening);
+            }
+        }
+        Ok(None)
+    }
+}
+
+// The commands after the first.
 #[derive(Drop)]
 pub struct Serving<'a> {
     pub rt: &'a HostRuntime,
