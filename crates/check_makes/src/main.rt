@@ -1,20 +1,67 @@
 // Runs long schedules over both makes of the directory and of the tape, and compares their answers call by call.
 #![tactic(auto)]
 
-mod agreement;
-mod names;
-mod random;
-mod schedule;
+mod directories;
 mod tapes;
 
-use crate::names::pool;
-use crate::random::Random;
-use crate::schedule::{compare, fill};
+use crate::directories::{compare, fill, pool};
 use crate::tapes::compare_tapes;
 use anyhow::ensure;
 use directory::{HashedDirectory, RowDirectory};
-use std::env;
 use std::process::ExitCode;
+use std::{env, fmt};
+
+// A small generator of numbers, the same on every run.
+#[derive(Drop)]
+pub struct Random {
+    state: u64,
+}
+
+impl Random {
+    pub fn new(seed: u64) -> Random {
+        Random { state: seed }
+    }
+
+    // The next number, below 2 to the 32nd.
+    pub fn next(&mut self) -> u32 {
+        self.state = self
+            .state
+            .wrapping_mul(6364136223846793005)
+            .wrapping_add(1442695040888963407);
+        ((self.state >> 32) & 0xffff_ffff) as u32
+    }
+}
+
+// Whether two makes answered alike, and a checksum of what they told.
+#[derive(Clone, Copy, Default, Drop)]
+pub struct Agreement {
+    sum: u64,
+    differ: bool,
+}
+
+impl fmt::Display for Agreement {
+    fn fmt<W: fmt::Write>(&self, f: &mut fmt::Formatter<W>) -> fmt::Result {
+        let sum = self.sum;
+        let word = if self.differ { "DIFFER" } else { "agree" };
+        write!(f, "checksum {sum}, {word}")
+    }
+}
+
+impl Agreement {
+    pub fn compare<T: PartialEq>(&mut self, one: &T, other: &T) {
+        if one != other {
+            self.differ = true;
+        }
+    }
+
+    pub fn holds(self) -> bool {
+        !self.differ
+    }
+
+    pub fn add(&mut self, told: u64) {
+        self.sum = self.sum.wrapping_mul(31).wrapping_add(told);
+    }
+}
 
 // True where the makes agree.
 fn run(rt: &HostRuntime) -> anyhow::Result<bool> {

@@ -1,5 +1,5 @@
-use crate::agreement::Agreement;
-use crate::random::Random;
+// The makes of the tape under the same calls.
+use crate::{Agreement, Random};
 use std::fmt;
 use tape::{ByteTape, Full, LINE_BYTES, Line, Mark, RecordTape, Tape, line_in, write_lines};
 
