@@ -1,9 +1,30 @@
 // Registers in hexadecimal on standard input, one a line: for each the orders that a reader finds, and its fault.
-use crate::hex;
 use anyhow::Context;
 use register::{Listed, Reader};
+use std::alloc::{AllocError, Global};
 use std::io;
 use std::io::{BufRead, BufReader};
+
+fn byte_in(pair: &[u8]) -> Option<u8> {
+    let [high, low] = pair else {
+        return None;
+    };
+    let high = char::from(*high).to_digit(16)?;
+    let low = char::from(*low).to_digit(16)?;
+    Some((16 * high + low) as u8)
+}
+
+// The bytes that are written as pairs of hexadecimal digits, parted by blanks; nothing where the text is not of that form.
+fn bytes_in(heap: Global, text: &str) -> Result<Option<Vec<u8>>, AllocError> {
+    let mut all = Vec::new(heap);
+    for pair in text.split_whitespace() {
+        let Some(b) = byte_in(pair.as_bytes()) else {
+            return Ok(None);
+        };
+        all.push(b)?;
+    }
+    Ok(Some(all))
+}
 
 fn print_order(rt: &HostRuntime, order: Listed<'_>) -> io::Result<()> {
     let place = order.place;
@@ -44,7 +65,7 @@ pub(crate) fn answer(rt: &HostRuntime) -> anyhow::Result<bool> {
         if line.as_str().starts_with('#') {
             rt.println(line)?;
         } else {
-            match hex::bytes(heap, line.as_str())? {
+            match bytes_in(heap, line.as_str())? {
                 Some(register) => print_register(rt, register.as_slice())?,
                 None => rt.println("not pairs of hexadecimal digits")?,
             }
