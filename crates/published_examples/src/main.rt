@@ -2,19 +2,41 @@
 // expected. The status is 0 where all agree, 1 where one does not, and 2 where the input is bad.
 #![tactic(auto)]
 
-mod call;
-mod count;
-mod example;
-mod playing;
-mod reader;
-mod report;
+ghost use Rattle.std.specs.Prelude.{◌≡◌, ◌≤◌, Decides};
 
-use crate::count::Count;
-use crate::playing::play;
+mod example;
+mod reader;
+
+use crate::example::LEGEND;
 use crate::reader::Reader;
 use anyhow::bail;
 use std::process::ExitCode;
 use std::{env, io};
+
+// How many examples were run, how many agree, and in how many our rules give something else than what is published.
+#[derive(Clone, Copy, Default, Drop)]
+pub struct Count {
+    pub run: u64,
+    pub agree: u64,
+    pub differ: u64,
+}
+
+impl Count {
+    // No more agree than were run.
+    pub fn add(&mut self, agrees: bool, differs: bool)
+        ensures { self.old.agree ≤ self.old.run → self.new.agree ≤ self.new.run }
+    {
+        self.run = self.run.saturating_add(1);
+        self.agree = self.agree.saturating_add(u64::from(agrees));
+        self.differ = self.differ.saturating_add(u64::from(differs));
+    }
+
+    pub fn all_agree(self) -> bool
+        ensures { Decides result (self.agree ≡ self.run) }
+    {
+        self.agree == self.run
+    }
+}
 
 fn run(rt: &HostRuntime) -> anyhow::Result<Count> {
     let heap = rt.alloc();
@@ -27,10 +49,10 @@ fn run(rt: &HostRuntime) -> anyhow::Result<Count> {
     }
     let mut reader = Reader::new(text.as_str());
     let mut count = Count::default();
-    println!(rt; "{}", report::LEGEND)?;
+    println!(rt; "{LEGEND}")?;
     while let Some(example) = reader.example(heap)? {
-        let came = play(heap, &example)?;
-        let agrees = report::example(rt, &example, came.as_slice())?;
+        let came = example.play(heap)?;
+        let agrees = example.print(rt, came.as_slice())?;
         count.add(agrees, !example.differs.is_empty());
     }
     let Count { run, agree, differ } = count;

@@ -1,8 +1,7 @@
 // Reads examples, line by line.
 ghost use Rattle.std.specs.Prelude.{◌≡◌, ◌∷◌, ◌++◌, ◌<◌, ◌≤◌, length, IfOk, MatchOption, OnSome};
 
-use crate::call::Call;
-use crate::example::Example;
+use crate::example::{Call, Example};
 use anyhow::{Context, anyhow};
 use std::alloc::{AllocError, Global};
 use terms::Quote;
