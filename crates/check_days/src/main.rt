@@ -1,11 +1,9 @@
 // The day files that are named, on each of the four pairs of makes; then entries until no more are accepted.
 #![tactic(auto)]
 
-mod day;
-mod spending;
+mod days;
 
-use crate::day::play;
-use crate::spending::spend_entries;
+use crate::days::{play, spend_entries};
 use anyhow::Context;
 use day_file::{Makes, Output};
 use std::alloc::Global;
