@@ -1,9 +1,8 @@
 // A day file as a list of calls. Questions alter nothing and are passed over, and so is what makes no call: a ticket or a quote
 // that is refused. A register that is loaded stands as the entries that it makes.
-use crate::load::Load;
 use anyhow::Context;
-use book::Call;
-use day_file::{Command, Frame};
+use book::{Answer, Call};
+use day_file::{Command, Frame, SLIP_PLACES};
 use register::Reader;
 use std::alloc::{AllocError, Global};
 use std::fs;
@@ -16,6 +15,27 @@ pub struct Day {
     pub lines: usize,
     pub calls: Vec<Call>,
     pub loads: Vec<Load>,
+}
+
+// A load of the day: where its entries stand in the list of calls, from begin to before end, and how many tickets are refused,
+// which make no call.
+#[derive(Clone, Copy, Drop)]
+pub struct Load {
+    pub begin: usize,
+    pub end: usize,
+    pub refused_tickets: usize,
+}
+
+impl Load {
+    // Each ticket and each entry that is refused takes a place. One slip more stops the load, and no order behind it is entered.
+    pub fn runs_out(&self, answers: &[Answer]) -> bool {
+        let own = answers.get(self.begin..self.end).unwrap_or(&[]);
+        let refused_entries = own
+            .iter()
+            .filter(|answer| matches!(answer, Answer::Refused(_)))
+            .count();
+        self.refused_tickets.saturating_add(refused_entries) > SLIP_PLACES
+    }
 }
 
 fn entry(

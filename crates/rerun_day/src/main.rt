@@ -2,21 +2,15 @@
 // ticks at every protection period's end, on other makes.
 #![tactic(auto)]
 
-mod compare;
 mod day;
-mod ending;
 mod lists;
-mod load;
-mod makes;
 mod request;
 mod verdict;
 
 use crate::day::{Day, read_day};
-use crate::ending::Ending;
 use crate::lists::{latest, tick_too_late, with_ticks};
-use crate::makes::on_makes;
 use crate::request::{HELP, Request};
-use crate::verdict::Silence;
+use crate::verdict::{Finding, Silence, Verdict};
 use anyhow::Context;
 use book::Call;
 use day_file::VERSION;
@@ -24,22 +18,22 @@ use std::env;
 use std::io::Read;
 use std::process::ExitCode;
 
-fn rerun(rt: &HostRuntime, mut day: Day) -> anyhow::Result<Ending> {
+fn rerun(rt: &HostRuntime, mut day: Day) -> anyhow::Result<ExitCode> {
     let heap = rt.alloc();
     let last = latest(day.calls.as_slice());
     day.calls.push(Call::Tick { time: last })?;
     let quiet = with_ticks(heap, day.calls.as_slice(), &[], last)?;
-    let on_quiet = on_makes(heap, &day, quiet.as_slice())?;
+    let on_quiet = Verdict::of(heap, &day, quiet.as_slice())?;
     println!(rt; "without ticks: {}", on_quiet.finding)?;
     let ends = on_quiet.ends.as_slice();
     println!(rt; "protection periods that began: {}", ends.len())?;
     let ticked = with_ticks(heap, day.calls.as_slice(), ends, last)?;
-    let on_ticked = on_makes(heap, &day, ticked.as_slice())?;
+    let on_ticked = Verdict::of(heap, &day, ticked.as_slice())?;
     println!(rt; "with ticks at their ends: {}", on_ticked.finding)?;
-    Ok(Ending::from(on_quiet.finding).max(Ending::from(on_ticked.finding)))
+    Ok(ExitCode::from(on_quiet.finding.max(on_ticked.finding)))
 }
 
-fn read_and_rerun(rt: &HostRuntime) -> anyhow::Result<Ending> {
+fn read_and_rerun(rt: &HostRuntime) -> anyhow::Result<ExitCode> {
     let heap = rt.alloc();
     let mut text = Vec::new(heap);
     rt.stdin()
@@ -47,32 +41,32 @@ fn read_and_rerun(rt: &HostRuntime) -> anyhow::Result<Ending> {
         .context("cannot read standard input")?;
     let Some(day) = read_day(rt, text.as_slice())? else {
         println!(rt; "no book is opened")?;
-        return Ok(Ending::Fine);
+        return Ok(ExitCode::SUCCESS);
     };
     if let Some(time) = tick_too_late(heap, day.calls.as_slice())? {
-        println!(rt; "{}", Silence::LateTick(time))?;
-        return Ok(Ending::Silent);
+        let finding = Finding::Silent(Silence::LateTick(time));
+        println!(rt; "{finding}")?;
+        return Ok(ExitCode::from(finding));
     }
     rerun(rt, day)
 }
 
-fn run(rt: &HostRuntime) -> anyhow::Result<Ending> {
+fn run(rt: &HostRuntime) -> anyhow::Result<ExitCode> {
     let args: Vec<String> = env::args(rt)?.skip(1).collect(rt.alloc())?;
     match Request::read(args.as_slice())? {
         Request::Help => rt.println(HELP)?,
         Request::Version => println!(rt; "rerun_day (Foszkelad) {VERSION}")?,
         Request::Rerun => return read_and_rerun(rt),
     }
-    Ok(Ending::Fine)
+    Ok(ExitCode::SUCCESS)
 }
 
 fn main(rt: HostRuntime) -> ExitCode {
-    let ending = match run(&rt) {
-        Ok(ending) => ending,
+    match run(&rt) {
+        Ok(status) => status,
         Err(e) => {
             let _ = eprintln!(rt; "rerun_day: {e:#}");
-            Ending::Failed
+            ExitCode::from(2)
         }
-    };
-    ExitCode::from(ending)
+    }
 }
