@@ -1,5 +1,5 @@
 -- Reading meets faults of fields and of orders only. Cite next_plain.
-use Rattle.std.proofs.Common.{◌≡◌, ℕ, Bool, true, false, not, ◌&&◌, eqb, ◌⊎◌, List, [], ◌∷◌, Some, None, Ok, Err, Option, Result, refl, inl, inr}
+use Rattle.std.proofs.Common.{◌≡◌, ℕ, Bool, true, false, not, cond, ◌&&◌, eqb, ◌⊎◌, List, [], ◌∷◌, Some, None, Ok, Err, Option, Result, refl, inl, inr}
 use Rattle.register.specs.declared.fault.Fault.{Fault}
 use Rattle.register.specs.declared.fault.Fault.TheVariants.{CutShort, Malformed}
 use Rattle.register.specs.Faults.{fault_layer}
@@ -13,29 +13,29 @@ Plain (Err e) = (fault_layer e ≡ 1) ⊎ (fault_layer e ≡ 2)
 plain_tagged : (total start tag : ℕ) (rest : List ℕ) → Plain (read_tagged total start rest tag)
 plain_tagged total start tag rest = taken (take_field rest)
   where
-    right : (x : Taken) (c : Bool) → Plain (elim c as (λ _. Result Taken Fault) [ false ↦ Err (Malformed start) | true ↦ Ok x ])
+    right : (x : Taken) (c : Bool) → Plain {X = Taken} (cond c (Ok x) (Err (Malformed start)))
     right x false = inr refl
     right x true = tt
 
-    taken : (f : Option Taken) → Plain (elim f as (λ _. Result Taken Fault) [ None ↦ Err (CutShort (place_in total rest)) | Some x ↦ elim (eqb x.tag tag) [ false ↦ Err (Malformed start) | true ↦ Ok x ] ])
+    taken : (f : Option Taken) → Plain (elim f as (λ _. Result Taken Fault) [ None ↦ Err (CutShort (place_in total rest)) | Some x ↦ cond (eqb x.tag tag) (Ok x) (Err (Malformed start)) ])
     taken None = inl refl
     taken (Some x) = right x (eqb x.tag tag)
 
 plain_present : (total start : ℕ) (f : Field) (c : Cursor) → Plain (read_present total start f c)
 plain_present total start f c = tagged (read_tagged total start c.rest f.tag) (plain_tagged total start f.tag c.rest)
   where
-    fit : (x : Taken) (b : Bool) → Plain (elim b as (λ _. Result Cursor Fault) [ false ↦ Err (Malformed start) | true ↦ Ok (record { order = f.put x.value c.order; rest = x.rest }) ])
+    fit : (x : Taken) (b : Bool) → Plain {X = Cursor} (cond b (Ok (record { order = f.put x.value c.order; rest = x.rest })) (Err (Malformed start)))
     fit x false = inr refl
     fit x true = tt
 
-    tagged : (t : Result Taken Fault) → Plain t → Plain (elim t as (λ _. Result Cursor Fault) [ Err e ↦ Err e | Ok x ↦ elim (f.fits c.order x.value) [ false ↦ Err (Malformed start) | true ↦ Ok (record { order = f.put x.value c.order; rest = x.rest }) ] ])
+    tagged : (t : Result Taken Fault) → Plain t → Plain (elim t as (λ _. Result Cursor Fault) [ Err e ↦ Err e | Ok x ↦ cond (f.fits c.order x.value) (Ok (record { order = f.put x.value c.order; rest = x.rest })) (Err (Malformed start)) ])
     tagged (Err e) h = h
     tagged (Ok x) h = fit x (f.fits c.order x.value)
 
 plain_field : (total start : ℕ) (f : Field) (c : Cursor) → Plain (read_field total start f c)
 plain_field total start f c = absent (f.may_be_missing && not (next_byte_is f.tag c.rest))
   where
-    absent : (b : Bool) → Plain (elim b as (λ _. Result Cursor Fault) [ true ↦ Ok c | false ↦ read_present total start f c ])
+    absent : (b : Bool) → Plain {X = Cursor} (cond b (Ok c) (read_present total start f c))
     absent true = tt
     absent false = plain_present total start f c
 

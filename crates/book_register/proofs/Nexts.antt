@@ -1,7 +1,7 @@
 -- What a reader hands out, once it is known which way it went. Cite order_came, fault_came and nothing_came.
 use Rattle.std.proofs.Common.{◌≡◌, ℕ, ◌<◌, List, length, Some, None, Ok, Err, Result, sym, ap, ◌∙◌, subst}
 use Rattle.register.specs.declared.fault.Fault.{Fault}
-use Rattle.register.specs.declared.listed.Listed.{Listed}
+use Rattle.register.specs.declared.reader.Listed.{Listed}
 use Rattle.register.specs.Parts.{listed_of, next_read, Placed}
 use Rattle.register.specs.Reading.{place_in, read_next}
 

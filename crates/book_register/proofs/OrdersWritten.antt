@@ -7,7 +7,7 @@ use Rattle.register.specs.Layout.{Listed}
 use Rattle.market.specs.declared.row.Row.{Row}
 use Rattle.market.specs.Rows.{row_order}
 use Rattle.rules.specs.Market.{Book}
-use Rattle.register.specs.declared.fill.NoRoom.{NoRoom}
+use Rattle.register.specs.declared.writer.NoRoom.{NoRoom}
 use Rattle.register.specs.Filling.{Page, fresh, room, order_fits, orders_fit, whole_orders, with_order, with_orders}
 use Rattle.register.specs.Refusal.{done_if, mark_if}
 use Rattle.register.specs.RoundTrip.{Holds}

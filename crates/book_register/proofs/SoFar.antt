@@ -6,7 +6,7 @@ use Rattle.std.proofs.lemmas.Bool.{lt-ltb, le-ltb}
 use Rattle.terms.specs.Terms.{OrderTerms}
 use Rattle.register.specs.declared.fault.Fault.{Fault}
 use Rattle.register.specs.Faults.{listed_ticket}
-use Rattle.register.specs.declared.listed.Listed.{Listed as ListedOrder}
+use Rattle.register.specs.declared.reader.Listed.{Listed as ListedOrder}
 use Rattle.register.specs.Layout.{Listed}
 use Rattle.register.specs.Parts.{listed_of}
 use Rattle.register.specs.Reading.{place_in, read_next}

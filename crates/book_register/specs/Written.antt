@@ -4,7 +4,7 @@ use Rattle.std.specs.List.{AllByRecursion as Every}
 use Rattle.terms.specs.Judging.{ticket_from}
 use Rattle.register.specs.Layout.{Listed}
 use Rattle.rules.specs.Market.{Order, Book}
-use Rattle.register.specs.declared.fill.NoRoom.{NoRoom}
+use Rattle.register.specs.declared.writer.NoRoom.{NoRoom}
 use Rattle.register.specs.Filling.{fresh, room, orders_fit, whole_orders, with_orders}
 use Rattle.register.specs.Orders.{order_of}
 use Rattle.register.specs.Refusal.{mark_if}

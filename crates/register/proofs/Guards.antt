@@ -9,8 +9,8 @@ use Rattle.terms.specs.Made.{terms_of}
 use Rattle.register.specs.Layout.{Listed}
 use Rattle.register.specs.Numbers.{signed_bytes}
 use Rattle.register.specs.declared.begun.Begun.{Begun}
-use Rattle.register.specs.declared.fill.Fill.{Fill}
-use Rattle.register.specs.declared.fill.NoRoom.{NoRoom}
+use Rattle.register.specs.declared.begun.Fill.{Fill}
+use Rattle.register.specs.declared.writer.NoRoom.{NoRoom}
 use Rattle.register.specs.declared.writer.Writer.{Writer}
 use Rattle.register.specs.Orders.{Tagged, order_of, order_fields}
 use Rattle.register.specs.Filling.{Page, room, fits, with_field, order_fits, with_order, whole_orders}

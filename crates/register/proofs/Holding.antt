@@ -10,7 +10,7 @@ use Rattle.terms.specs.declared.ticket.Terms.{Terms}
 use Rattle.terms.specs.Judging.{offset_in_range}
 use Rattle.terms.specs.Made.{terms_of}
 use Rattle.register.specs.Layout.{Listed}
-use Rattle.register.specs.declared.fill.NoRoom.{NoRoom}
+use Rattle.register.specs.declared.writer.NoRoom.{NoRoom}
 use Rattle.register.specs.Orders.{Tagged, tagged_bytes, order_fields, order_bytes, register_bytes, order_of}
 use Rattle.register.specs.Filling.{Page, room, put_at, fits, order_fits, fitted_fields, with_order, orders_fit, whole_orders}
 use Rattle.register.specs.Refusal.{mark_if}

@@ -1,5 +1,6 @@
 mod Branches
 mod Guards
+mod Into
 mod Numbers
 mod Offsets
 mod Pages

@@ -1,12 +1,11 @@
 -- Numbers in bytes and back. Cite two_back, four_back and signed_back of what was written, two_again, four_again and
 -- signed_again of what was read.
-use Rattle.std.proofs.Common.{◌≡◌, ℕ, zero, suc, ◌+◌, ◌-◌, ◌*◌, ◌/◌, ◌%◌, ◌^◌, ◌<◌, Bool, true, false, ltb, [], ◌∷◌, ℤ, pos, negsuc, sym, refl, ap, ◌∙◌, arith}
+use Rattle.std.proofs.Common.{◌≡◌, ℕ, zero, suc, ◌+◌, ◌-◌, ◌*◌, ◌/◌, ◌%◌, ◌^◌, ◌<◌, Bool, true, false, cond, ltb, [], ◌∷◌, ℤ, pos, negsuc, sym, refl, ap, ◌∙◌, arith}
 use native.Mathlib.Nat.{div-div-eq-div-mul}
-use Rattle.std.proofs.lemmas.Bool.{lt-ltb, le-ltb, lt-leb}
+use Rattle.std.proofs.lemmas.Bool.{lt-ltb, le-ltb, lt-leb, cond-true, cond-false}
 use Rattle.terms.specs.Judging.{is_zero}
 use Rattle.register.specs.Numbers.{number_from, two_bytes, four_bytes, signed_from, signed_bytes}
 use Rattle.register.specs.RoundTrip.{In16Bits}
-use Rattle.register.proofs.Branches.{if_true, if_not}
 
 pub two_back : (n : ℕ) → n < 65536 → number_from (two_bytes n) ≡ n
 two_back n h = omega arith
@@ -30,16 +29,16 @@ positive zero h = absurd (h refl)
 positive (suc n) h = omega arith
 
 signed_of : ℕ → ℤ
-signed_of n = elim (ltb n 32768) [ true ↦ pos n | false ↦ negsuc (65535 - n) ]
+signed_of n = cond (ltb n 32768) (pos n) (negsuc (65535 - n))
 
 pub signed_back : (z : ℤ) → In16Bits z → signed_from (signed_bytes z) ≡ z
 unfolding signed_of
 signed_back (pos k) h =
-    ap signed_of (two_back k (omega arith)) ∙ if_true (ltb k 32768) (pos k) (negsuc (65535 - k)) (lt-ltb k 32768 h)
+    ap signed_of (two_back k (omega arith)) ∙ cond-true (ltb k 32768) (pos k) (negsuc (65535 - k)) (lt-ltb k 32768 h)
 signed_back (negsuc k) h =
     let back : 65535 - (65535 - k) ≡ k = omega arith in
     ap signed_of (two_back (65535 - k) (omega arith))
-    ∙ if_not (ltb (65535 - k) 32768) (pos (65535 - k)) (negsuc (65535 - (65535 - k))) (le-ltb (65535 - k) 32768 (omega arith))
+    ∙ cond-false (ltb (65535 - k) 32768) (pos (65535 - k)) (negsuc (65535 - (65535 - k))) (le-ltb (65535 - k) 32768 (omega arith))
     ∙ ap negsuc back
 
 -- the bytes of a number that was read from bytes
@@ -69,10 +68,10 @@ module _ (a b : ℕ) (ha : a < 256) (hb : b < 256) where
 
   signed_if : (t : Bool) → ltb value 32768 ≡ t → (value ≡ 0 → ⊥) → (signed_bytes (signed_from (a ∷ (b ∷ []))) ≡ a ∷ (b ∷ [])) × (is_zero (signed_from (a ∷ (b ∷ []))) ≡ false)
   signed_if true h nz =
-      let is = if_true (ltb value 32768) (pos value) (negsuc (65535 - value)) h in
+      let is = cond-true (ltb value 32768) (pos value) (negsuc (65535 - value)) h in
       (ap signed_bytes is ∙ two_again a b ha hb, ap is_zero is ∙ lt-leb value 0 (positive value nz))
   signed_if false h nz =
-      let is = if_not (ltb value 32768) (pos value) (negsuc (65535 - value)) h in
+      let is = cond-false (ltb value 32768) (pos value) (negsuc (65535 - value)) h in
       let back : 65535 - (65535 - value) ≡ value = omega arith in
       (ap signed_bytes is ∙ ap two_bytes back ∙ two_again a b ha hb, ap is_zero is)
 

@@ -1,5 +1,5 @@
 -- An offset is written unless it is 0. Cite offset_there and offset_absent, with not_zero or zero of what the code tested.
-use Rattle.std.proofs.Common.{◌≡◌, ℕ, zero, suc, true, false, List, [], ◌∷◌, ℤ, pos, negsuc, Some, None, Option, refl, ap, arith, w32, of_z}
+use Rattle.std.proofs.Common.{◌≡◌, zero, suc, true, false, cond, [], ◌∷◌, ℤ, pos, negsuc, Some, None, refl, ap, arith, w32, of_z}
 use Rattle.std.proofs.lemmas.Bool.{leb-true, lt-leb, le-leb}
 use Rattle.terms.specs.Judging.{is_zero, offset_in_range}
 use Rattle.register.specs.Layout.{Listed, offset_field}
@@ -17,7 +17,7 @@ zero_is (negsuc k) r h = absurd (omega (arith, leb-true (suc k) 100 r))
 
 module _ (o : Listed) where
   pub offset_there : is_zero o.draft.offset ≡ false → row_then 5 (offset_field.get o) [] ≡ record { tag = 5; value = signed_bytes o.draft.offset } ∷ []
-  offset_there h = ap (λ b. row_then 5 (elim b as (λ _. Option (List ℕ)) [ true ↦ None | false ↦ Some (signed_bytes o.draft.offset) ]) []) h
+  offset_there h = ap (λ b. row_then 5 (cond b None (Some (signed_bytes o.draft.offset))) []) h
 
   pub offset_absent : is_zero o.draft.offset ≡ true → row_then 5 (offset_field.get o) [] ≡ []
-  offset_absent h = ap (λ b. row_then 5 (elim b as (λ _. Option (List ℕ)) [ true ↦ None | false ↦ Some (signed_bytes o.draft.offset) ]) []) h
+  offset_absent h = ap (λ b. row_then 5 (cond b None (Some (signed_bytes o.draft.offset))) []) h

@@ -1,8 +1,8 @@
 -- Reading the bytes that were written of orders, row by row. Cite reads_back.
-use Rattle.std.proofs.Common.{◌≡◌, ℕ, ◌+◌, ◌-◌, ◌*◌, ◌/◌, ◌%◌, ◌≤◌, Bool, true, false, not, ◌&&◌, eqb, leb, List, [], ◌∷◌, ◌++◌, length, take, drop, ℤ, pos, negsuc, Some, None, Ok, Err, Result, refl, ap, ◌∙◌, append_assoc, append-nil, arith}
+use Rattle.std.proofs.Common.{◌≡◌, ℕ, ◌+◌, ◌-◌, ◌*◌, ◌/◌, ◌%◌, ◌≤◌, Bool, true, false, not, cond, ◌&&◌, eqb, leb, List, [], ◌∷◌, ◌++◌, length, take, drop, ℤ, pos, negsuc, Some, None, Ok, Err, Result, refl, ap, ◌∙◌, append_assoc, append-nil, arith}
 use Rattle.std.specs.List.{flat_map, AllByRecursion as Every}
 use Rattle.std.proofs.lemmas.List.{length-append, take_at, drop_at}
-use Rattle.std.proofs.lemmas.Bool.{le-leb, leb-true, leb-false, eq-eqb, ne_eqb, and_right, and_from}
+use Rattle.std.proofs.lemmas.Bool.{le-leb, leb-true, leb-false, eq-eqb, ne_eqb, and_right, and_from, cond-true, cond-false}
 use Rattle.terms.specs.declared.ticket.Draft.{Draft}
 use Rattle.terms.specs.Judging.{is_zero}
 use Rattle.register.specs.declared.fault.Fault.{Fault}
@@ -12,7 +12,6 @@ use Rattle.register.specs.Layout.{Listed, Field, layout, ticket_layout, identifi
 use Rattle.register.specs.Reading.{Taken, Cursor, take_field, place_in, next_byte_is, read_tagged, read_present, read_field, read_fields, read_order, read_next}
 use Rattle.register.specs.Orders.{tagged_bytes, row_then, order_fields, order_bytes, register_bytes}
 use Rattle.register.specs.RoundTrip.{has_short_name, ReadsAs, In16Bits, InWidth}
-use Rattle.register.proofs.Branches.{if_true, if_not}
 use Rattle.register.proofs.Numbers.{two_back, four_back, signed_back}
 use Rattle.register.proofs.Offsets.{offset_there, offset_absent}
 
@@ -25,7 +24,7 @@ taken_back tag v more h =
     let back : n ≡ length v = omega arith in
     let v_back = take_at v more (length v) refl in
     let more_back = drop_at v more (length v) refl in
-    if_true (leb n (length (v ++ more))) (Some (taken tag (take n (v ++ more)) (drop n (v ++ more)))) None (le-leb n (length (v ++ more)) (omega (arith, length-append v more)))
+    cond-true (leb n (length (v ++ more))) (Some (taken tag (take n (v ++ more)) (drop n (v ++ more)))) None (le-leb n (length (v ++ more)) (omega (arith, length-append v more)))
     ∙ ap (λ k. Some (taken tag (take k (v ++ more)) (drop k (v ++ more)))) back
     ∙ ap (λ xs. Some (taken tag xs (drop (length v) (v ++ more)))) v_back
     ∙ ap (λ xs. Some (taken tag v xs)) more_back
@@ -33,22 +32,22 @@ taken_back tag v more h =
 module _ (total start : ℕ) where
   tagged_back : (tag : ℕ) (v more : List ℕ) → length v ≤ 65535 → read_tagged total start (field_bytes tag v ++ more) tag ≡ Ok (taken tag v more)
   tagged_back tag v more h =
-      ap (λ t. elim t as (λ _. Result Taken Fault) [ None ↦ Err (CutShort (place_in total (field_bytes tag v ++ more))) | Some x ↦ elim (eqb x.tag tag) [ false ↦ Err (Malformed start) | true ↦ Ok x ] ]) (taken_back tag v more h)
-      ∙ if_true (eqb tag tag) (Ok (taken tag v more)) (Err (Malformed start)) (eq-eqb tag tag refl)
+      ap (λ t. elim t as (λ _. Result Taken Fault) [ None ↦ Err (CutShort (place_in total (field_bytes tag v ++ more))) | Some x ↦ cond (eqb x.tag tag) (Ok x) (Err (Malformed start)) ]) (taken_back tag v more h)
+      ∙ cond-true (eqb tag tag) (Ok (taken tag v more)) (Err (Malformed start)) (eq-eqb tag tag refl)
 
   -- a row whose value is there
   field_back : (f : Field) (o : Listed) (v more : List ℕ) → length v ≤ 65535 → f.fits o v ≡ true → read_field total start f (record { order = o; rest = field_bytes f.tag v ++ more }) ≡ Ok (record { order = f.put v o; rest = more })
   field_back f o v more h fit =
       let c : Cursor = record { order = o; rest = field_bytes f.tag v ++ more } in
       let there : (f.may_be_missing && not (next_byte_is f.tag c.rest)) ≡ false = and_right f.may_be_missing _ (ap not (eq-eqb f.tag f.tag refl)) in
-      if_not _ (Ok c) (read_present total start f c) there
-      ∙ ap (λ t. elim t as (λ _. Result Cursor Fault) [ Err e ↦ Err e | Ok x ↦ elim (f.fits o x.value) [ false ↦ Err (Malformed start) | true ↦ Ok (record { order = f.put x.value o; rest = x.rest }) ] ]) (tagged_back f.tag v more h)
-      ∙ if_true (f.fits o v) (Ok (record { order = f.put v o; rest = more })) (Err (Malformed start)) fit
+      cond-false _ (Ok c) (read_present total start f c) there
+      ∙ ap (λ t. elim t as (λ _. Result Cursor Fault) [ Err e ↦ Err e | Ok x ↦ cond (f.fits o x.value) (Ok (record { order = f.put x.value o; rest = x.rest })) (Err (Malformed start)) ]) (tagged_back f.tag v more h)
+      ∙ cond-true (f.fits o v) (Ok (record { order = f.put v o; rest = more })) (Err (Malformed start)) fit
 
   -- a row that has none
   pub missing_back : (f : Field) (c : Cursor) → f.may_be_missing ≡ true → next_byte_is f.tag c.rest ≡ false → read_field total start f c ≡ Ok c
   missing_back f c may gone =
-      if_true _ (Ok c) (read_present total start f c) (and_from f.may_be_missing _ may (ap not gone))
+      cond-true _ (Ok c) (read_present total start f c) (and_from f.may_be_missing _ may (ap not gone))
 
   pub further : (f : Field) (fs : List Field) (c d : Cursor) → read_field total start f c ≡ Ok d → read_fields total start (f ∷ fs) c ≡ read_fields total start fs d
   unfolding read_fields

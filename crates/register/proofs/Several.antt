@@ -6,7 +6,7 @@ use Rattle.std.specs.List.{flat_map}
 use Rattle.std.proofs.lemmas.List.{length-append}
 use Rattle.std.proofs.lemmas.Bool.{leb-true, and_parts, cond-true, cond-false}
 use Rattle.register.specs.Layout.{Listed}
-use Rattle.register.specs.declared.fill.NoRoom.{NoRoom}
+use Rattle.register.specs.declared.writer.NoRoom.{NoRoom}
 use Rattle.register.specs.Orders.{Tagged, tagged_bytes, order_fields, order_bytes, register_bytes}
 use Rattle.register.specs.Filling.{Page, room, put_at, fits, all_fit, order_fits, fitted_fields, with_order, orders_fit, whole_orders, half_order, with_orders}
 use Rattle.register.specs.Refusal.{done_if, mark_if}

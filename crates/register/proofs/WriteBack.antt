@@ -1,5 +1,5 @@
 -- Writing an order that was read gives the bytes that it was read from, row by row. Cite writes_back.
-use Rattle.std.proofs.Common.{◌≡◌, ℕ, ◌+◌, ◌*◌, ◌/◌, ◌%◌, ◌<◌, Bool, true, false, not, ◌&&◌, eqb, leb, List, [], ◌∷◌, ◌++◌, length, get_or, take, drop, ℤ, pos, Some, None, Ok, Err, Option, Result, sym, refl, ap, ◌∙◌, subst, append-nil, arith}
+use Rattle.std.proofs.Common.{◌≡◌, ℕ, ◌+◌, ◌*◌, ◌/◌, ◌%◌, ◌<◌, Bool, true, false, not, cond, ◌&&◌, eqb, leb, List, [], ◌∷◌, ◌++◌, length, get_or, take, drop, ℤ, pos, Some, None, Ok, Err, Option, Result, sym, refl, ap, ◌∙◌, subst, append-nil, arith}
 use Rattle.std.specs.List.{flat_map, AllByRecursion as Every}
 use Rattle.std.proofs.lemmas.List.{length-take-le, take-append-drop}
 use Rattle.std.proofs.ByRecursion.{All-take, All-drop}
@@ -22,7 +22,7 @@ pub record Again (bs : List ℕ) (x : Taken) : Type 0 where
   pub value : Every Byte x.value
   pub rest : Every Byte x.rest
 
-again_if : (t a b : ℕ) (bs : List ℕ) (x : Taken) (c : Bool) → a < 256 → b < 256 → Every Byte bs → leb (a * 256 + b) (length bs) ≡ c → elim c as (λ _. Option Taken) [ true ↦ Some (record { tag = t; value = take (a * 256 + b) bs; rest = drop (a * 256 + b) bs }) | false ↦ None ] ≡ Some x → Again (t ∷ (a ∷ (b ∷ bs))) x
+again_if : (t a b : ℕ) (bs : List ℕ) (x : Taken) (c : Bool) → a < 256 → b < 256 → Every Byte bs → leb (a * 256 + b) (length bs) ≡ c → cond c (Some (record { tag = t; value = take (a * 256 + b) bs; rest = drop (a * 256 + b) bs })) None ≡ Some x → Again (t ∷ (a ∷ (b ∷ bs))) x
 again_if t a b bs x false ha hb all l e = absurd (let z : ◌≡◌ {A = ℕ} 0 1 = cc in omega arith)
 again_if t a b bs x true ha hb all l e =
     let n = a * 256 + b in
@@ -59,26 +59,26 @@ module _ (total start : ℕ) (f : Field) (fs : List Field) (c d : Cursor) where
   after_that (Err e) = Err e
   after_that (Ok e) = read_fields total start fs e
 
-  by_fit : (x : Taken) → take_field c.rest ≡ Some x → x.tag ≡ f.tag → (b : Bool) → f.fits c.order x.value ≡ b → after_that (elim b [ false ↦ Err (Malformed start) | true ↦ Ok (record { order = f.put x.value c.order; rest = x.rest }) ]) ≡ Ok d → Past total start f fs c d
+  by_fit : (x : Taken) → take_field c.rest ≡ Some x → x.tag ≡ f.tag → (b : Bool) → f.fits c.order x.value ≡ b → after_that (cond b (Ok (record { order = f.put x.value c.order; rest = x.rest })) (Err (Malformed start))) ≡ Ok d → Past total start f fs c d
   unfolding after_that
   by_fit x from tag false h e = absurd (let z : ◌≡◌ {A = ℕ} 0 1 = cc in omega arith)
   by_fit x from tag true h e = record { taken = x; from = from; tag = tag; fits = h; then = e }
 
   if_tagged : Result Taken Fault → Result Cursor Fault
   if_tagged (Err e) = Err e
-  if_tagged (Ok x) = elim (f.fits c.order x.value) [ false ↦ Err (Malformed start) | true ↦ Ok (record { order = f.put x.value c.order; rest = x.rest }) ]
+  if_tagged (Ok x) = cond (f.fits c.order x.value) (Ok (record { order = f.put x.value c.order; rest = x.rest })) (Err (Malformed start))
 
-  by_tag : (x : Taken) → take_field c.rest ≡ Some x → (b : Bool) → eqb x.tag f.tag ≡ b → after_that (if_tagged (elim b [ false ↦ Err (Malformed start) | true ↦ Ok x ])) ≡ Ok d → Past total start f fs c d
+  by_tag : (x : Taken) → take_field c.rest ≡ Some x → (b : Bool) → eqb x.tag f.tag ≡ b → after_that (if_tagged (cond b (Ok x) (Err (Malformed start)))) ≡ Ok d → Past total start f fs c d
   unfolding after_that if_tagged
   by_tag x from false h e = absurd (let z : ◌≡◌ {A = ℕ} 0 1 = cc in omega arith)
   by_tag x from true h e = by_fit x from (eqb-true x.tag f.tag h) (f.fits c.order x.value) refl e
 
-  by_taken : (t : Option Taken) → take_field c.rest ≡ t → after_that (if_tagged (elim t [ None ↦ Err (CutShort (place_in total c.rest)) | Some x ↦ elim (eqb x.tag f.tag) [ false ↦ Err (Malformed start) | true ↦ Ok x ] ])) ≡ Ok d → Past total start f fs c d
+  by_taken : (t : Option Taken) → take_field c.rest ≡ t → after_that (if_tagged (elim t [ None ↦ Err (CutShort (place_in total c.rest)) | Some x ↦ cond (eqb x.tag f.tag) (Ok x) (Err (Malformed start)) ])) ≡ Ok d → Past total start f fs c d
   unfolding after_that if_tagged
   by_taken None h e = absurd (let z : ◌≡◌ {A = ℕ} 0 1 = cc in omega arith)
   by_taken (Some x) h e = by_tag x h (eqb x.tag f.tag) refl e
 
-  tagged_is : (t : Result Taken Fault) → if_tagged t ≡ elim t as (λ _. Result Cursor Fault) [ Err e ↦ Err e | Ok x ↦ elim (f.fits c.order x.value) [ false ↦ Err (Malformed start) | true ↦ Ok (record { order = f.put x.value c.order; rest = x.rest }) ] ]
+  tagged_is : (t : Result Taken Fault) → if_tagged t ≡ elim t as (λ _. Result Cursor Fault) [ Err e ↦ Err e | Ok x ↦ cond (f.fits c.order x.value) (Ok (record { order = f.put x.value c.order; rest = x.rest })) (Err (Malformed start)) ]
   unfolding if_tagged
   tagged_is (Err e) = refl
   tagged_is (Ok x) = refl
@@ -88,7 +88,7 @@ module _ (total start : ℕ) (f : Field) (fs : List Field) (c d : Cursor) where
   after_is (Err e) = refl
   after_is (Ok e) = refl
 
-  by_presence : (b : Bool) → b ≡ false → after_that (elim b [ true ↦ Ok c | false ↦ read_present total start f c ]) ≡ Ok d → Past total start f fs c d
+  by_presence : (b : Bool) → b ≡ false → after_that (cond b (Ok c) (read_present total start f c)) ≡ Ok d → Past total start f fs c d
   by_presence true h e = absurd (let z : true ≡ false = h in true≢false z)
   by_presence false h e =
       by_taken (take_field c.rest) refl (ap after_that (tagged_is (read_tagged total start c.rest f.tag)) ∙ e)

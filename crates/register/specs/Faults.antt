@@ -33,12 +33,12 @@ fault_words (Ticket why place) = refusal_words why
 
 -- as people read it: number, layer, place, words
 abbrev pub fault_text : Fault → List ℕ
-fault_text e = told (fault_number e) (fault_layer e) (fault_place e) (fault_words e)
+fault_text fault = told (fault_number fault) (fault_layer fault) (fault_place fault) (fault_words fault)
 
 -- the ticket of an order that is listed at a place
 abbrev pub listed_ticket : ℕ → Draft → Result OrderTerms Fault
-listed_ticket place d = elim (ticket_from d) [ Ok w ↦ Ok w | Err e ↦ Err (Ticket e place) ]
+listed_ticket place draft = elim (ticket_from draft) [ Ok terms ↦ Ok terms | Err why ↦ Err (Ticket why place) ]
 
 abbrev pub ticket_or_fault : Result LawfulTicket Fault → Result OrderTerms Fault
-ticket_or_fault (Ok t) = Ok (ticket_terms t)
-ticket_or_fault (Err e) = Err e
+ticket_or_fault (Ok ticket) = Ok (ticket_terms ticket)
+ticket_or_fault (Err fault) = Err fault

@@ -1,6 +1,7 @@
--- A buffer that is filled from a mark on: what fits whole, and what the buffer then holds, byte for byte.
-use Rattle.std.specs.Prelude.{ℕ, ◌+◌, ◌-◌, Bool, true, cond, ◌&&◌, List, [], ◌∷◌, ◌++◌, length, take, drop, nat_le}
-use Rattle.register.specs.Layout.{Listed}
+-- A buffer that is filled from a mark on: what fits whole, and what the buffer then holds, byte for byte. `free` is how many bytes
+-- there are from the mark on.
+use Rattle.std.specs.Prelude.{ℕ, ◌+◌, ◌-◌, Bool, true, if◌then◌else◌, ◌&&◌, List, [], ◌∷◌, ◌++◌, length, take, drop, nat_le}
+use Rattle.register.specs.Layout.{Listed, longest_value}
 use Rattle.register.specs.Orders.{Tagged, tagged_bytes, order_fields, order_bytes, register_bytes}
 
 -- a buffer, and how far it is written
@@ -13,64 +14,69 @@ abbrev pub fresh : List ℕ → Page
 fresh bytes = record { bytes = bytes; mark = 0 }
 
 abbrev pub room : Page → ℕ
-room p = length p.bytes - p.mark
+room page = length page.bytes - page.mark
 
 -- some bytes over those from a place on, and no other byte
 abbrev pub put_at : List ℕ → ℕ → List ℕ → List ℕ
-put_at was place bs = take place was ++ (bs ++ drop (place + length bs) was)
+put_at before place bytes = take place before ++ (bytes ++ drop (place + length bytes) before)
 
 -- a field fits where two bytes tell its length, and all of it finds room
 abbrev pub fits : ℕ → Tagged → Bool
-fits free t = nat_le (length t.value) 65535 && nat_le (length (tagged_bytes t)) free
+fits free field = nat_le (length field.value) longest_value && nat_le (length (tagged_bytes field)) free
 
 abbrev pub all_fit : ℕ → List Tagged → Bool
 all_fit free [] = true
-all_fit free (t ∷ ts) = fits free t && all_fit (free - length (tagged_bytes t)) ts
+all_fit free (field ∷ fields) = fits free field && all_fit (free - length (tagged_bytes field)) fields
 
 -- the fields that fit whole, up to the first that does not
 abbrev pub fitted : ℕ → List Tagged → List ℕ
 fitted free [] = []
-fitted free (t ∷ ts) = cond (fits free t) (tagged_bytes t ++ fitted (free - length (tagged_bytes t)) ts) []
+fitted free (field ∷ fields) =
+    if fits free field then tagged_bytes field ++ fitted (free - length (tagged_bytes field)) fields else []
 
 -- a field put at the mark, if it fits
 abbrev pub with_field : Page → Tagged → Page
-with_field p t =
-    cond (fits (room p) t)
-    (record { bytes = put_at p.bytes p.mark (tagged_bytes t); mark = p.mark + length (tagged_bytes t) })
-    p
+with_field page field =
+    if fits (room page) field
+    then record { bytes = put_at page.bytes page.mark (tagged_bytes field); mark = page.mark + length (tagged_bytes field) }
+    else page
 
 abbrev pub order_fits : ℕ → Listed → Bool
-order_fits free o = all_fit free (order_fields o)
+order_fits free order = all_fit free (order_fields order)
 
 abbrev pub fitted_fields : ℕ → Listed → List ℕ
-fitted_fields free o = fitted free (order_fields o)
+fitted_fields free order = fitted free (order_fields order)
 
 -- An order put at the mark. Where it does not fit, its fields that do are in the buffer, and the mark is where it was.
 abbrev pub with_order : Page → Listed → Page
-with_order p o =
-    cond (order_fits (room p) o)
-    (record { bytes = put_at p.bytes p.mark (order_bytes o); mark = p.mark + length (order_bytes o) })
-    (record { bytes = put_at p.bytes p.mark (fitted_fields (room p) o); mark = p.mark })
+with_order page order =
+    if order_fits (room page) order
+    then record { bytes = put_at page.bytes page.mark (order_bytes order); mark = page.mark + length (order_bytes order) }
+    else record page { bytes = put_at page.bytes page.mark (fitted_fields (room page) order) }
 
 -- some orders, one after another
 abbrev pub orders_fit : ℕ → List Listed → Bool
 orders_fit free [] = true
-orders_fit free (o ∷ os) = order_fits free o && orders_fit (free - length (order_bytes o)) os
+orders_fit free (order ∷ orders) = order_fits free order && orders_fit (free - length (order_bytes order)) orders
 
 -- those that fit whole, up to the first that does not
 abbrev pub whole_orders : ℕ → List Listed → List Listed
 whole_orders free [] = []
-whole_orders free (o ∷ os) = cond (order_fits free o) (o ∷ whole_orders (free - length (order_bytes o)) os) []
+whole_orders free (order ∷ orders) =
+    if order_fits free order then order ∷ whole_orders (free - length (order_bytes order)) orders else []
 
 -- the fields that fit of that one; nothing where every order fits
 abbrev pub half_order : ℕ → List Listed → List ℕ
 half_order free [] = []
-half_order free (o ∷ os) = cond (order_fits free o) (half_order (free - length (order_bytes o)) os) (fitted_fields free o)
+half_order free (order ∷ orders) =
+    if order_fits free order
+    then half_order (free - length (order_bytes order)) orders
+    else fitted_fields free order
 
 -- Orders put from the mark on: the whole ones up to the new mark, then half an order if one does not fit, then what was there.
 abbrev pub with_orders : Page → List Listed → Page
-with_orders p os =
+with_orders page orders =
     record {
-      bytes = put_at p.bytes p.mark (register_bytes (whole_orders (room p) os) ++ half_order (room p) os);
-      mark = p.mark + length (register_bytes (whole_orders (room p) os));
+      bytes = put_at page.bytes page.mark (register_bytes (whole_orders (room page) orders) ++ half_order (room page) orders);
+      mark = page.mark + length (register_bytes (whole_orders (room page) orders));
     }

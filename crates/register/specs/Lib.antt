@@ -5,6 +5,7 @@ pub mod Layout
 pub mod Numbers
 pub mod Orders
 pub mod Parts
+pub mod Readers
 pub mod Reading
 pub mod Refusal
 pub mod Reports

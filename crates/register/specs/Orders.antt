@@ -12,39 +12,39 @@ pub record Tagged : Type 0 where
   pub value : List ℕ
 
 abbrev pub tagged_bytes : Tagged → List ℕ
-tagged_bytes t = field_bytes t.tag t.value
+tagged_bytes field = field_bytes field.tag field.value
 
 -- what one row writes of an order, before what the rows after it write
 abbrev pub row_then : ℕ → Option (List ℕ) → List Tagged → List Tagged
-row_then tag None ts = ts
-row_then tag (Some v) ts = record { tag = tag; value = v } ∷ ts
+row_then tag None fields = fields
+row_then tag (Some value) fields = record { tag = tag; value = value } ∷ fields
 
 abbrev pub fields_by : List Field → Listed → List Tagged
-fields_by [] o = []
-fields_by (f ∷ fs) o = row_then f.tag (f.get o) (fields_by fs o)
+fields_by [] order = []
+fields_by (row ∷ rows) order = row_then row.tag (row.get order) (fields_by rows order)
 
 -- the fields of an order: no offset of 0, and never a short name
 unfoldable pub order_fields : Listed → List Tagged
-order_fields o = fields_by layout o
+order_fields order = fields_by layout order
 
 abbrev pub order_bytes : Listed → List ℕ
-order_bytes o = flat_map tagged_bytes (order_fields o)
+order_bytes order = flat_map tagged_bytes (order_fields order)
 
 abbrev pub register_bytes : List Listed → List ℕ
-register_bytes os = flat_map order_bytes os
+register_bytes orders = flat_map order_bytes orders
 
 -- terms as a register lists them: the shares are those that are left
 abbrev pub draft_of : OrderTerms → ℕ → Draft
-draft_of w left =
+draft_of terms left =
     record {
-      side = side_code w.side;
-      kind = kind_code w.kind;
-      time_in_force = time_in_force_code w.time_in_force;
-      qdp = qdp_code w.qdp;
+      side = side_code terms.side;
+      kind = kind_code terms.kind;
+      time_in_force = time_in_force_code terms.time_in_force;
+      qdp = qdp_code terms.qdp;
       shares = left;
-      limit = w.limit;
-      offset = w.offset;
+      limit = terms.limit;
+      offset = terms.offset;
     }
 
 abbrev pub order_of : List ℕ → OrderTerms → ℕ → Listed
-order_of identifier w left = record { identifier = identifier; draft = draft_of w left }
+order_of identifier terms left = record { identifier = identifier; draft = draft_of terms left }

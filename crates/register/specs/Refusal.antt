@@ -1,15 +1,15 @@
 -- What a writer answers: done, or refused for want of room.
-use Rattle.std.specs.Prelude.{ℕ, Bool, cond, List, Ok, Err, codes, Result}
+use Rattle.std.specs.Prelude.{ℕ, Bool, if◌then◌else◌, List, Ok, Err, codes, Result}
 use Rattle.register.specs.Reports.{told}
-use Rattle.register.specs.declared.fill.NoRoom.{NoRoom}
+use Rattle.register.specs.declared.writer.NoRoom.{NoRoom}
 
 -- done if it fits; else refused, at the place where the order begins
 abbrev pub done_if : Bool → ℕ → Result (Unit {0}) NoRoom
-done_if fit place = cond fit (Ok tt) (Err (record { place = place }))
+done_if fit place = if fit then Ok tt else Err (record { place = place })
 
 -- the same, where what is done is told by the mark
 abbrev pub mark_if : Bool → ℕ → Result ℕ NoRoom
-mark_if fit mark = cond fit (Ok mark) (Err (record { place = mark }))
+mark_if fit mark = if fit then Ok mark else Err (record { place = mark })
 
 -- its number and layer among the faults of a register; its place is that of the order's first byte
 abbrev pub no_room_number : ℕ
@@ -23,4 +23,4 @@ no_room_words = codes "no room for the order"
 
 -- as people read it: number, layer, place, words
 abbrev pub no_room_text : NoRoom → List ℕ
-no_room_text e = told no_room_number no_room_layer e.place no_room_words
+no_room_text refused = told no_room_number no_room_layer refused.place no_room_words

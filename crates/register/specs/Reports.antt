@@ -1,6 +1,6 @@
 -- A fault as people read it, of a register, a writer or a load: number, layer, place, words.
 use Rattle.std.specs.Prelude.{ℕ, List, ◌++◌, codes, decimal}
-use Rattle.register.specs.declared.report.Report.{Report}
+use Rattle.register.specs.declared.fault.Report.{Report}
 
 abbrev pub told : ℕ → ℕ → ℕ → List ℕ → List ℕ
 told number layer place words =
@@ -8,4 +8,4 @@ told number layer place words =
     ++ (codes " (layer " ++ (decimal layer ++ (codes ", at " ++ (decimal place ++ (codes "): " ++ words)))))
 
 abbrev pub report_text : Report → List ℕ
-report_text r = told r.number r.layer r.place r.words.now
+report_text report = told report.number report.layer report.place report.words.now

@@ -2,7 +2,7 @@
 use Rattle.std.specs.Prelude.{◌≡◌, ℕ, List, [], ◌∷◌, ◌++◌, map, take, replicate, ℤ, pos, negsuc, Ok, Err, codes, Result}
 use Rattle.register.specs.Layout.{Listed}
 use Rattle.register.specs.Examples.{buy_mdo, bytes_of_A1}
-use Rattle.register.specs.declared.fill.NoRoom.{NoRoom}
+use Rattle.register.specs.declared.writer.NoRoom.{NoRoom}
 use Rattle.register.specs.Filling.{Page, fresh, room, order_fits, with_order}
 use Rattle.register.specs.Refusal.{done_if}
 

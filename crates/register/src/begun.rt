@@ -1,10 +1,17 @@
-// An order that is begun: unless it is finished, the mark goes back to where it began.
+// How far a buffer is written, and an order that is begun in it: unless it is finished, the mark goes back to where it began.
 ghost use Rattle.std.specs.Prelude.{◌-◌, ◌≡◌};
 ghost use Rattle.register.specs.Filling.{fits, room, with_field};
 ghost use Rattle.register.specs.Refusal.{done_if};
 ghost use Rattle.register.specs.Writers.{SameGuard, begun_page};
 
-use crate::fill::{Fill, NoRoom};
+use crate::field::HEAD_BYTES;
+use crate::writer::NoRoom;
+
+// The bytes below the mark are written.
+#[derive(Clone, Copy, PartialEq, Eq, Debug, Drop)]
+pub(crate) struct Fill {
+    pub mark: usize,
+}
 
 pub(crate) struct Begun<'a, 'b> {
     buffer: &'a mut [u8],
@@ -65,12 +72,12 @@ impl<'a, 'b> Begun<'a, 'b> {
         let mark = self.fill.mark;
         let size = value.len();
         let [high, low] = u16::try_from(size).map_err(|_| no_room)?.to_be_bytes();
-        if buffer.len().saturating_sub(mark) < 3 + size {
+        if buffer.len().saturating_sub(mark) < HEAD_BYTES + size {
             return Err(no_room);
         }
-        buffer[mark..mark + 3].copy_from_slice(&[tag, high, low]);
-        buffer[mark + 3..mark + 3 + size].copy_from_slice(value);
-        self.fill.mark = mark + 3 + size;
+        buffer[mark..mark + HEAD_BYTES].copy_from_slice(&[tag, high, low]);
+        buffer[mark + HEAD_BYTES..mark + HEAD_BYTES + size].copy_from_slice(value);
+        self.fill.mark = mark + HEAD_BYTES + size;
         Ok(())
     }
 }

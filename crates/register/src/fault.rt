@@ -1,7 +1,8 @@
+// What is wrong in a register, and how it is told.
 ghost use Rattle.std.specs.Prelude.{Some, ◌≡◌};
 ghost use Rattle.register.specs.Faults.{fault_layer, fault_number, fault_place, fault_text, fault_words};
+ghost use Rattle.register.specs.Reports.{report_text};
 
-use crate::report::Report;
 use std::error::Error;
 use std::fmt;
 use terms::{Refusal, Ticket};
@@ -15,6 +16,15 @@ pub enum Fault {
     Malformed(usize),
     // the order's ticket is refused: the order's place
     Ticket(Refusal, usize),
+}
+
+// What is told of a fault: number, layer (1 field, 2 order, 3 ticket, 4 book), place and words.
+#[derive(Clone, Copy, Drop)]
+pub struct Report {
+    pub number: u8,
+    pub layer: u8,
+    pub place: usize,
+    pub words: &'static str,
 }
 
 impl Fault {
@@ -62,3 +72,17 @@ impl fmt::Display for Fault {
 }
 
 impl Error for Fault {}
+
+impl fmt::Display for Report {
+    ghost output = { λ r. Some (report_text r) };
+
+    fn fmt<W: fmt::Write>(&self, f: &mut fmt::Formatter<W>) -> fmt::Result {
+        let Report {
+            number,
+            layer,
+            place,
+            words,
+        } = *self;
+        write!(f, "{number} (layer {layer}, at {place}): {words}")
+    }
+}

@@ -4,16 +4,10 @@
 mod begun;
 mod fault;
 mod field;
-mod fill;
-mod listed;
 mod place;
 mod reader;
-mod report;
 mod writer;
 
-pub use fault::Fault;
-pub use fill::{Fill, NoRoom};
-pub use listed::{Listed, Part};
-pub use reader::Reader;
-pub use report::Report;
-pub use writer::Writer;
+pub use fault::{Fault, Report};
+pub use reader::{Listed, Part, Reader};
+pub use writer::{NoRoom, Writer};

@@ -1,6 +1,6 @@
 use Rattle.std.proofs.Common.{[], ◌∷◌, ◌++◌, refl, ap, ◌∙◌, length, arith, rules}
 use Rattle.std.proofs.lemmas.Result.{err_from_is_err_and}
-use Rattle.register.specs.declared.reader.Reader.{Reader}
+use Rattle.register.specs.Readers.{register_of, rest_of}
 use Rattle.roll.specs.Rolls.{records}
 use Rattle.book_register.specs.declared.slip.Slip.{Slip}
 use Rattle.book_register.proofs.Nexts.{Came, nothing_came, order_came, fault_came}
@@ -11,7 +11,7 @@ use Rattle.book_register.proofs.load.load_register.Goals.{In_ok-order}
 use Rattle.book_register.proofs.load.load_register.Given.{Over}
 
 -- the order that came
-came : (g : Over) (c : In_ok-order g) → Came c.args.register.now c.loop-next.next-iterator.rest.now c.next.new.self.rest.now c.in_ok-order.order
+came : (g : Over) (c : In_ok-order g) → Came c.args.register.now (rest_of c.loop-next.next-iterator) (rest_of c.next.new.self) c.in_ok-order.order
 came g c = let next = c.in-Some.ensures.steps in order_came _ _ _ _ c.loop-next.invariant.2 _ next.0 _ c.in_ok-order.was next.2 next.3
 
 pub loop-next-init : goal.loop-next-init
@@ -19,10 +19,10 @@ loop-next-init g c =
     let made = c.new-next-items.ensures in
     let none = c.default-loaded.ensures in
     let same = c.into_iter-next-iterator.ensures.into_iter_gives in
-    let rest = ap (λ (r : Reader). r.rest.now) same ∙ made.rest in (
+    let rest = ap rest_of same ∙ made.rest in (
       tt,
       tt,
-      ap (λ (r : Reader). r.register.now) same ∙ made.register,
+      ap register_of same ∙ made.register,
       omega (arith, none, ap length rest),
       rw (rest, none.0, none.1) (so_far_none c.args.book.now c.args.slips.now c.args.time c.args.register.now),
     )

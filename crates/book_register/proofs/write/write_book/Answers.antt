@@ -3,7 +3,7 @@ use Rattle.std.proofs.lemmas.List.{at_drop_all}
 use Rattle.std.proofs.lemmas.Result.{err_from_is_err_and}
 use Rattle.terms.specs.Made.{terms_of}
 use Rattle.register.specs.Orders.{order_of}
-use Rattle.register.specs.Writers.{page_of}
+use Rattle.register.specs.Writers.{lender, page_of}
 use Rattle.book_register.specs.Written.{listed_order}
 use Rattle.book_register.proofs.OrdersWritten.{SoWritten, written_more, written_all, written_half, rows_listed, row_next, book_written}
 use Rattle.register.proofs.WriteBack.{writes_back}
@@ -36,7 +36,7 @@ returns-in_err-write_order-clause-written g c =
     let o = order_of c.as_bytes.result.now (terms_of row.terms) row.left in
     let next = row_next start p (rows_listed rs) rs i row o c.loop-row-test.true c.row-item.is (ap (λ id. order_of id (terms_of row.terms) row.left) c.as_bytes.ensures) c.loop-row.invariant.1 in
     let e = err_from_is_err_and c.from_residual.result c.from_residual.ensures.1 in
-    let lent : c.write_order.new.self.buffer.ghost_name ≡ c.new-writer.result.buffer.ghost_name = c.write_order.ensures.lent ∙ c.loop-row.invariant.0 in
+    let lent : lender c.write_order.new.self ≡ lender c.new-writer.result = c.write_order.ensures.lent ∙ c.loop-row.invariant.0 in
     rw (e.1, e.2) (book_written b c.args.buffer.now _ start q _ (rows_listed rs) (ap (map listed_order) c.resting_orders-row-items.ensures.rows) c.new-writer.ensures.page (search rules)
     (written_half start p (rows_listed rs) o (rows_listed (drop (i + 1) rs)) next q c.write_order.ensures.page c.write_order.ensures.reads_back _ c.in_err-write_order.ensures.outcome)
     (tickets_again c.args.book.now rs c.resting_orders-row-items.ensures.rows c.resting_orders-row-items.ensures.reached))
