@@ -3,8 +3,8 @@ use Rattle.std.specs.Prelude.{ℕ}
 use Rattle.terms.specs.Codes.{refusal_number as ticket_number}
 use Rattle.rules.specs.Answers.{refused}
 use Rattle.rules.specs.Codes.{told}
-use Rattle.day_file.specs.declared.refused.Refused.{Refused}
-use Rattle.day_file.specs.declared.refused.Refused.TheVariants.{Unlawful, Book}
+use Rattle.day_file.specs.declared.output.Refused.{Refused}
+use Rattle.day_file.specs.declared.output.Refused.TheVariants.{Unlawful, Book}
 
 -- of a ticket or a quote 1 to 6; of a call what the rule book tells, 7 to 13
 abbrev pub number_of : Refused → ℕ

@@ -1,5 +1,4 @@
-use crate::line::Words;
-use crate::number::{as_offset, as_u8, as_u32, as_u64, whole};
+use crate::line::{Words, as_offset, as_u8, as_u32, as_u64, whole};
 use std::error::Error;
 use std::fmt;
 use terms::Draft;

@@ -1,9 +1,6 @@
 // A desk: a book, and how many of its trades have been told.
-ghost use Rattle.book_register.specs.Written.{Written};
-
 use crate::command::Command;
-use crate::output::Output;
-use crate::refused::Refused;
+use crate::output::{Output, Refused};
 use book::{Book, OpenRefusal};
 use book_register::{LoadFault, Loaded, Slip, load_register, write_book};
 use directory::Directory;
@@ -37,6 +34,9 @@ fn tell_end(ended: Result<Loaded, LoadFault>, out: &mut Output) -> Result<(), Al
 }
 
 impl<D: Directory, T: Tape> Desk<D, T> {
+    ghost use Rattle.book_register.specs.Written.{Written};
+    ghost use Rattle.day_file.specs.Desks.{book_of};
+
     // The trades that have come since they were last told.
     pub(crate) fn tell_trades(&mut self, out: &mut Output) -> Result<(), AllocError> {
         for place in self.told.saturating_add(1)..=self.book.lines() {
@@ -107,7 +107,7 @@ impl<D: Directory, T: Tape> Desk<D, T> {
     // Writes the resting orders into the buffer: how many bytes they take, or that they do not fit. Who puts them into a file tells it
     // when they are there.
     pub fn write(&self, buffer: &mut [u8]) -> Result<usize, NoRoom>
-        ensures { Written self.now.book.book buffer.old buffer.new result }
+        ensures { Written (book_of self.now) buffer.old buffer.new result }
     {
         write_book(&self.book, buffer)
     }

@@ -1,3 +1,7 @@
+// The words of a line, and the numbers in them.
+ghost use Rattle.std.specs.Prelude.{◌-◌, ◌^◌, ◌≡◌};
+ghost use Rattle.day_file.specs.Numbers.{most, size_from, size_in, whole_in, within};
+
 #[derive(Drop)]
 pub(crate) struct Words<'a> {
     rest: &'a [u8],
@@ -27,4 +31,64 @@ impl<'a> Iterator for Words<'a> {
         self.rest = rest;
         Some(word)
     }
+}
+
+fn with_digit(size: u64, byte: u8) -> Option<u64>
+    ensures { result ≡ size_from size byte }
+{
+    match byte {
+        b'0'..=b'9' => Some(
+            size.saturating_mul(10)
+                .saturating_add(u64::from(byte - b'0')),
+        ),
+        _ => None,
+    }
+}
+
+// None where there is no digit, or something else. A size past 64 bits is the largest that they hold.
+#[tactic(auto, unfolding(crate::specs::Numbers::size_on))]
+fn size_in(digits: &[u8]) -> Option<u64>
+    ensures { result ≡ size_in digits.now }
+{
+    if digits.is_empty() {
+        return None;
+    }
+    let mut size = 0;
+    for byte in digits {
+        size = with_digit(size, *byte)?;
+    }
+    Some(size)
+}
+
+// Digits, which a minus may precede.
+pub(crate) fn whole(word: &[u8]) -> Option<i128>
+    ensures { result ≡ whole_in word.now }
+{
+    match word {
+        [b'-', digits @ ..] => size_in(digits).map(|size| -i128::from(size)),
+        digits => size_in(digits).map(|size| i128::from(size)),
+    }
+}
+
+pub(crate) fn as_u64(number: i128) -> u64
+    ensures { result ≡ within most number }
+{
+    u64::try_from(number).unwrap_or(u64::MAX)
+}
+
+pub(crate) fn as_u32(number: i128) -> u32
+    ensures { result ≡ within (2 ^ 32 - 1) number }
+{
+    u32::try_from(number).unwrap_or(u32::MAX)
+}
+
+pub(crate) fn as_u8(number: i128) -> u8
+    ensures { result ≡ within 255 number }
+{
+    u8::try_from(number).unwrap_or(u8::MAX)
+}
+
+// An offset of more than 16 bits is out of range as well as one of 1,000.
+pub(crate) fn as_offset(number: i128) -> i32 {
+    number.clamp(-1000, 1000) as i32
 }

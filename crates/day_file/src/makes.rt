@@ -1,8 +1,8 @@
 // The makes of directory and tape that a book may stand on; the answers are the same on all.
 use crate::desk::Desk;
-use crate::no_memory::NoMemory;
 use directory::{Directory, HashedDirectory, RowDirectory};
-use std::alloc::Global;
+use std::alloc::{AllocError, Global};
+use std::error::Error;
 use std::fmt;
 use tape::{ByteTape, LINE_BYTES, Line, RecordTape, Tape};
 use terms::Quote;
@@ -25,6 +25,16 @@ pub enum TapeMake {
 pub struct Makes {
     pub directory: DirectoryMake,
     pub tape: TapeMake,
+}
+
+// Where memory is wanting when a book is opened.
+#[derive(Clone, Copy, PartialEq, Eq, Debug, Drop)]
+pub enum NoMemory {
+    // an allocation failed
+    Failed,
+    // the tape's size is past all memory
+    Tape,
+    Book,
 }
 
 // What is done with a desk, whatever the makes of its book.
@@ -161,3 +171,21 @@ impl fmt::Display for Makes {
         write!(f, "{directory} and {tape}")
     }
 }
+
+impl From<AllocError> for NoMemory {
+    fn from(_failed: AllocError) -> NoMemory {
+        NoMemory::Failed
+    }
+}
+
+impl fmt::Display for NoMemory {
+    fn fmt<W: fmt::Write>(&self, f: &mut fmt::Formatter<W>) -> fmt::Result {
+        match self {
+            NoMemory::Failed => write!(f, "memory allocation failed"),
+            NoMemory::Tape => write!(f, "no memory for the tape"),
+            NoMemory::Book => write!(f, "no memory for the book"),
+        }
+    }
+}
+
+impl Error for NoMemory {}

@@ -1,10 +1,22 @@
-use crate::refused::Refused;
-use book::Explanation;
+// What is answered, and why a command is refused.
+ghost use Rattle.std.specs.Prelude.{◌≡◌};
+ghost use Rattle.day_file.specs.Refusals.{number_of};
+
+use book::{Explanation, Rejected};
 use book_register::Slip;
 use itoa::Buffer;
 use market::{Figures, Standing, Why};
+use rules::Refusal;
 use std::alloc::{AllocError, Global};
 use tape::Line;
+use terms::Refusal as Unlawful;
+
+// Why a command is refused: by what it says, or by the book.
+#[derive(Clone, Copy, PartialEq, Eq, Debug, Drop)]
+pub(crate) enum Refused {
+    Unlawful(Unlawful),
+    Book(Refusal),
+}
 
 // Text that answers are gathered in until it is printed.
 #[derive(Drop)]
@@ -132,5 +144,35 @@ impl Output {
                 figures.sell.shares,
             ],
         )
+    }
+}
+
+impl Refused {
+    pub(crate) fn number(self) -> u8
+        ensures { result ≡ number_of self }
+    {
+        match self {
+            Refused::Unlawful(why) => why.number(),
+            Refused::Book(why) => why.number(),
+        }
+    }
+}
+
+impl From<Unlawful> for Refused {
+    fn from(why: Unlawful) -> Refused {
+        Refused::Unlawful(why)
+    }
+}
+
+impl From<Refusal> for Refused {
+    fn from(why: Refusal) -> Refused {
+        Refused::Book(why)
+    }
+}
+
+// The ticket that is handed back is let go.
+impl From<Rejected> for Refused {
+    fn from(rejected: Rejected) -> Refused {
+        Refused::Book(rejected.why)
     }
 }

@@ -1,2 +1,0 @@
-// Of the programs.
-pub const VERSION: &str = "1.0";
