@@ -1,5 +1,5 @@
 -- Rows of the order table, as the rule book's orders.
-use Rattle.std.specs.Prelude.{ℕ, ◌+◌, Bool, true, false, ◌&&◌, List, [], ◌∷◌, nat_lt, if◌then◌else◌}
+use Rattle.std.specs.Prelude.{ℕ, ◌+◌, Bool, true, ◌&&◌, List, [], ◌∷◌, nat_lt, if◌then◌else◌}
 use Rattle.terms.specs.Made.{terms_of}
 use Rattle.rules.specs.Limits.{most_resting}
 use Rattle.rules.specs.Market.{Order}
