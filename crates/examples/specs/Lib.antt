@@ -1,1 +1,4 @@
+pub mod Examples
+pub mod PriorityRuns
+pub mod RefusalRuns
 pub mod Table

@@ -6,9 +6,9 @@ use Rattle.rules.specs.Market.{Book}
 use Rattle.rules.specs.Answers.{Answer as CallAnswer}
 use Rattle.rules.specs.Calls.{Call}
 use Rattle.rules.specs.Runs.{Run, run}
-use Rattle.rules.specs.Examples.{Example, told_with_the_rules}
-use Rattle.rules.specs.PriorityRuns.{told_of_priority}
-use Rattle.rules.specs.RefusalRuns.{told_of_refusals}
+use Rattle.examples.specs.Examples.{Example, told_with_the_rules}
+use Rattle.examples.specs.PriorityRuns.{told_of_priority}
+use Rattle.examples.specs.RefusalRuns.{told_of_refusals}
 use Rattle.register.specs.Examples as read
 use Rattle.register.specs.WritingExamples as written
 
@@ -25,22 +25,22 @@ pub data Answer : Type 0 where
   ran : List CallAnswer → List Line → Answer
 
 abbrev pub run_answer : Run → Answer
-run_answer r = ran r.answers r.book.market.tape
+run_answer made = ran made.answers made.book.market.tape
 
 abbrev pub answer_to : Question → Answer
-answer_to (of_an_order q) = told (read.answer_to q)
-answer_to (of_a_buffer q) = left (written.answer_to q)
-answer_to (of_a_run b room calls) = run_answer (run room calls b)
+answer_to (of_an_order question) = told (read.answer_to question)
+answer_to (of_a_buffer question) = left (written.answer_to question)
+answer_to (of_a_run book room calls) = run_answer (run room calls book)
 
 abbrev pub a_run : Example → Question × Answer
-a_run x = (of_a_run x.book x.room x.calls, ran x.answers x.tape)
+a_run example = (of_a_run example.book example.room example.calls, ran example.answers example.tape)
 
 abbrev pub examples : List (Question × Answer)
 examples =
-    map (λ x. (of_an_order x.0, told x.1)) read.examples
-    ++ (map (λ x. (of_a_buffer x.0, left x.1)) written.examples
+    map (λ example. (of_an_order example.0, told example.1)) read.examples
+    ++ (map (λ example. (of_a_buffer example.0, left example.1)) written.examples
     ++ (map a_run told_with_the_rules ++ (map a_run told_of_priority ++ map a_run told_of_refusals)))
 
 -- every answer is as told
 abbrev pub ExamplesAsTold : Type 0
-ExamplesAsTold = map (λ x. answer_to x.0) examples ≡ map (λ x. x.1) examples
+ExamplesAsTold = map (λ example. answer_to example.0) examples ≡ map (λ example. example.1) examples

@@ -2,11 +2,13 @@
 #![tactic(auto)]
 
 ghost use Rattle.std.specs.Prelude.{◌≡◌, length};
+ghost use Rattle.examples.specs.Examples.{QuestionsAsTold};
 ghost use Rattle.examples.specs.Table.{examples, ExamplesAsTold};
 
-// How many there are; that each comes out as told is the contract.
+// How many there are in the table. That each comes out as told is the contract, and so what is asked of books comes out.
 pub fn worked_examples() -> usize
     ensures told { ExamplesAsTold }
+    ensures questions { QuestionsAsTold }
     ensures count { result ≡ length examples }
 {
     39

@@ -22,5 +22,4 @@ pub mod Count
 pub mod Refusals
 pub mod Numbers
 pub mod Ranking
-pub mod Table
 pub mod Grown

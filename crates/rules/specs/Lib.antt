@@ -13,7 +13,4 @@ pub mod Growth
 pub mod Laws
 pub mod Finished
 pub mod Trades
-pub mod Examples
-pub mod PriorityRuns
-pub mod RefusalRuns
 pub mod Words

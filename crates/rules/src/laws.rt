@@ -1,28 +1,12 @@
 // Each carries a law on its contract; nothing calls them.
 ghost use Rattle.std.specs.Prelude.{min, nat_le, nat_lt, ◌≡◌};
-ghost use Rattle.rules.specs.Examples.{AsTold, QuestionsAsTold, told_with_the_rules};
 ghost use Rattle.rules.specs.Finished.{NothingDue};
 ghost use Rattle.rules.specs.Growth.{TapeOnlyGrows};
 ghost use Rattle.rules.specs.Laws.{EntriesCounted, NeverCrossed, NumberedInTurn, NumbersAscend, OrdersWithinPlaces, ReasonsHold, SettlesAtOnce, SharesRemain, TapeExplainsDiscretion, TicksChangeOnlyTheClock};
-ghost use Rattle.rules.specs.Limits.{fewest_left, last_moment, most_entries, most_resting, protection_period, round_lot};
-ghost use Rattle.rules.specs.PriorityRuns.{told_of_priority};
-ghost use Rattle.rules.specs.RefusalRuns.{told_of_refusals};
+ghost use Rattle.rules.specs.Limits.{fewest_left, last_moment, most_entries, most_resting, protection_period};
 ghost use Rattle.rules.specs.Trades.{LinesTellTrades};
 
-use crate::limits::{
-    FEWEST_LEFT, LAST_MOMENT, MOST_ENTRIES, MOST_RESTING, PROTECTION_PERIOD, ROUND_LOT,
-};
-
-// The round lot. The worked examples stand, which pin it together with class order, line price and refusals.
-pub fn examples_stand() -> u32
-    ensures lot { result ≡ round_lot }
-    ensures rules { AsTold told_with_the_rules }
-    ensures priority { AsTold told_of_priority }
-    ensures refusals { AsTold told_of_refusals }
-    ensures questions { QuestionsAsTold }
-{
-    ROUND_LOT
-}
+use crate::limits::{FEWEST_LEFT, LAST_MOMENT, MOST_ENTRIES, MOST_RESTING, PROTECTION_PERIOD};
 
 // The last moment of the day; until then it does not matter when the book is ticked.
 pub fn ticks_change_only_the_clock() -> u64

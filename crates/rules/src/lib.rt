@@ -8,8 +8,8 @@ mod priority;
 mod refusal;
 
 pub use laws::{
-    entries_are_numbered, examples_stand, lines_tell_trades, lines_within_orders, never_crossed,
-    nothing_is_due, orders_within_places, settles_at_once, shares_remain, tape_explains_discretion,
+    entries_are_numbered, lines_tell_trades, lines_within_orders, never_crossed, nothing_is_due,
+    orders_within_places, settles_at_once, shares_remain, tape_explains_discretion,
     ticks_change_only_the_clock,
 };
 pub use limits::{

@@ -7,9 +7,14 @@ use Rattle.rules.specs.Priority.{next_partner}
 use Rattle.rules.specs.Sweep.{best_displayed, displayed_shares, depletes, trade, lines, sweep, sweep_each}
 use Rattle.rules.specs.Clock.{end_period, end_periods, settle, at_time}
 use Rattle.rules.specs.Calls.{swept_in, named, done_at, call}
+use Rattle.rules.specs.Questions.{placed, ranking_of, why}
 use Rattle.rules.specs.Runs.{run}
 use Rattle.examples.proofs.worked_examples.Goals as goal
 
 pub returns-clause-told : goal.returns-clause-told
 unfolding read_fields order_fields ranked_in reach_in resting without lower those next_partner best_displayed displayed_shares depletes trade lines sweep sweep_each end_period end_periods settle at_time swept_in named done_at call run
 returns-clause-told c = refl
+
+pub returns-clause-questions : goal.returns-clause-questions
+unfolding ranked_in reach_in resting without lower those next_partner best_displayed displayed_shares depletes trade lines sweep sweep_each end_period end_periods settle at_time swept_in named done_at call run placed ranking_of why
+returns-clause-questions c = (refl, refl, refl, refl, refl)

@@ -14,7 +14,7 @@ use Rattle.rules.specs.Market.{Market, Book}
 use Rattle.rules.specs.Answers.{Answer, entered, ticked}
 use Rattle.rules.specs.Calls.{Call, entry, quote, tick}
 use Rattle.rules.specs.Questions.{Standing, asked, closing, Why, no_mdo, at_limit, at_midpoint, protected, discretion, why}
-use Rattle.rules.specs.Runs.{Run, opened, run}
+use Rattle.rules.specs.Runs.{opened, run}
 
 pub record Example : Type 0 where
   pub book : Book
@@ -23,56 +23,56 @@ pub record Example : Type 0 where
   pub answers : List Answer
   pub tape : List Line
 
--- the example with the answers and the tape that its calls give
-abbrev pub replayed : Example → Example
-replayed x =
-    let r : Run = run x.room x.calls x.book in
-    record { book = x.book; room = x.room; calls = x.calls; answers = r.answers; tape = r.book.market.tape }
-
-abbrev pub AsTold : List Example → Type 0
-AsTold examples = map replayed examples ≡ examples
-
 -- Words for the tables
 
 abbrev pub noon : ℕ
 noon = 43200000000
 
--- a displayed buy at 1000
-abbrev pub D : ℕ → OrderTerms
-D n = record { side = Buy; kind = DisplayedLimit; time_in_force = Rest; qdp = false; shares = n; limit = 1000; offset = pos 0 }
+-- an order without offset and QDP
+abbrev pub plain : Side → Kind → TimeInForce → ℕ → ℕ → OrderTerms
+plain side kind time_in_force shares limit =
+    record {
+      side = side;
+      kind = kind;
+      time_in_force = time_in_force;
+      qdp = false;
+      shares = shares;
+      limit = limit;
+      offset = pos 0;
+    }
 
--- a hidden MDO with QDP, of 200 shares
-abbrev pub M : Side → ℕ → ℤ → OrderTerms
-M s limit offset = record { side = s; kind = HiddenMdo; time_in_force = Rest; qdp = true; shares = 200; limit = limit; offset = offset }
+-- a displayed buy at 1000
+abbrev pub displayed_buy : ℕ → OrderTerms
+displayed_buy shares = plain Buy DisplayedLimit Rest shares 1000
 
 -- an MDO of 200 shares without QDP
 abbrev pub free_mdo : Side → Kind → ℕ → ℤ → OrderTerms
-free_mdo s k limit offset = record { side = s; kind = k; time_in_force = Rest; qdp = false; shares = 200; limit = limit; offset = offset }
+free_mdo side kind limit offset = record (plain side kind Rest 200 limit) { offset = offset }
 
--- an order without offset and QDP
-abbrev pub plain : Side → Kind → TimeInForce → ℕ → ℕ → OrderTerms
-plain s k f n limit = record { side = s; kind = k; time_in_force = f; qdp = false; shares = n; limit = limit; offset = pos 0 }
+-- a hidden MDO with QDP, of 200 shares
+abbrev pub qdp_mdo : Side → ℕ → ℤ → OrderTerms
+qdp_mdo side limit offset = record (free_mdo side HiddenMdo limit offset) { qdp = true }
 
 abbrev pub sell_at : ℕ → ℕ → OrderTerms
-sell_at n limit = plain Sell DisplayedLimit ImmediateOrCancel n limit
+sell_at shares limit = plain Sell DisplayedLimit ImmediateOrCancel shares limit
 
 abbrev pub buy_at : ℕ → ℕ → OrderTerms
-buy_at n limit = plain Buy DisplayedLimit ImmediateOrCancel n limit
+buy_at shares limit = plain Buy DisplayedLimit ImmediateOrCancel shares limit
 
 abbrev pub midpoint_sell : TimeInForce → ℕ → OrderTerms
-midpoint_sell f n = plain Sell MidpointPeg f n 1
+midpoint_sell time_in_force shares = plain Sell MidpointPeg time_in_force shares 1
 
 abbrev pub line : ℕ → ℕ → ℕ → ℕ → ℕ → Mark → Line
-line t partner taker shares price mark =
-    record { time = t; partner = partner; taker = taker; shares = shares; price = price; mark = mark }
+line time partner taker shares price mark =
+    record { time = time; partner = partner; taker = taker; shares = shares; price = price; mark = mark }
 
--- an identifier for the k-th order: a letter
-abbrev pub id : ℕ → List ℕ
-id k = (64 + k) ∷ []
+-- an identifier by its number: a letter
+abbrev pub letter : ℕ → List ℕ
+letter number = (64 + number) ∷ []
 
--- at midnight D and M, at noon a sell that depletes the bid
+-- at midnight displayed_buy and qdp_mdo, at noon a sell that depletes the bid
 abbrev pub depleted : ℤ → ℕ → List Call
-depleted offset n = entry 0 (id 1) (D 100) ∷ entry 0 (id 2) (M Buy 1001 offset) ∷ entry noon (id 3) (sell_at n 1000) ∷ []
+depleted offset sold = entry 0 (letter 1) (displayed_buy 100) ∷ entry 0 (letter 2) (qdp_mdo Buy 1001 offset) ∷ entry noon (letter 3) (sell_at sold 1000) ∷ []
 
 -- The rules' own examples, at 1000 by 1001
 
@@ -82,7 +82,7 @@ told_with_the_rules =
     record {
       book = opened 1000 1001;
       room = 64;
-      calls = depleted (negsuc 2) 1 ++ (entry (noon + 1000) (id 4) (midpoint_sell ImmediateOrCancel 100) ∷ []);
+      calls = depleted (negsuc 2) 1 ++ (entry (noon + 1000) (letter 4) (midpoint_sell ImmediateOrCancel 100) ∷ []);
       answers = entered 1 0 0 ∷ entered 2 0 0 ∷ entered 3 1 0 ∷ entered 4 0 100 ∷ [];
       tape = line noon 1 3 1 2000 BidDepleted ∷ [];
     }
@@ -90,7 +90,7 @@ told_with_the_rules =
     ∷ record {
       book = opened 1000 1001;
       room = 64;
-      calls = depleted (negsuc 0) 100 ++ (entry (noon + 1000) (id 4) (midpoint_sell Rest 100) ∷ tick (noon + 2000) ∷ []);
+      calls = depleted (negsuc 0) 100 ++ (entry (noon + 1000) (letter 4) (midpoint_sell Rest 100) ∷ tick (noon + 2000) ∷ []);
       answers = entered 1 0 0 ∷ entered 2 0 0 ∷ entered 3 100 0 ∷ entered 4 0 0 ∷ ticked ∷ [];
       tape = line noon 1 3 100 2000 BidDepleted ∷ line (noon + 2000) 4 2 100 2001 Nothing ∷ [];
     }
@@ -98,7 +98,7 @@ told_with_the_rules =
     ∷ record {
       book = opened 1000 1001;
       room = 64;
-      calls = depleted (negsuc 0) 100 ++ (entry (noon + 1000) (id 4) (midpoint_sell Rest 100) ∷ tick (noon + 7000) ∷ []);
+      calls = depleted (negsuc 0) 100 ++ (entry (noon + 1000) (letter 4) (midpoint_sell Rest 100) ∷ tick (noon + 7000) ∷ []);
       answers = entered 1 0 0 ∷ entered 2 0 0 ∷ entered 3 100 0 ∷ entered 4 0 0 ∷ ticked ∷ [];
       tape = line noon 1 3 100 2000 BidDepleted ∷ line (noon + 2000) 4 2 100 2001 Nothing ∷ [];
     }
@@ -106,7 +106,7 @@ told_with_the_rules =
     ∷ record {
       book = opened 1000 1001;
       room = 64;
-      calls = entry 0 (id 1) (D 200) ∷ entry noon (id 2) (sell_at 100 1000) ∷ [];
+      calls = entry 0 (letter 1) (displayed_buy 200) ∷ entry noon (letter 2) (sell_at 100 1000) ∷ [];
       answers = entered 1 0 0 ∷ entered 2 100 0 ∷ [];
       tape = line noon 1 2 100 2000 Nothing ∷ [];
     }
@@ -114,7 +114,7 @@ told_with_the_rules =
     ∷ record {
       book = opened 1000 1001;
       room = 64;
-      calls = entry 0 (id 1) (D 200) ∷ entry noon (id 2) (sell_at 101 1000) ∷ [];
+      calls = entry 0 (letter 1) (displayed_buy 200) ∷ entry noon (letter 2) (sell_at 101 1000) ∷ [];
       answers = entered 1 0 0 ∷ entered 2 101 0 ∷ [];
       tape = line noon 1 2 101 2000 BidDepleted ∷ [];
     }
@@ -124,8 +124,8 @@ told_with_the_rules =
       room = 64;
       calls =
           depleted (negsuc 0) 100
-          ++ (entry (noon + 1999) (id 4) (midpoint_sell ImmediateOrCancel 100)
-          ∷ entry (noon + 2000) (id 5) (midpoint_sell ImmediateOrCancel 100)
+          ++ (entry (noon + 1999) (letter 4) (midpoint_sell ImmediateOrCancel 100)
+          ∷ entry (noon + 2000) (letter 5) (midpoint_sell ImmediateOrCancel 100)
           ∷ []);
       answers = entered 1 0 0 ∷ entered 2 0 0 ∷ entered 3 100 0 ∷ entered 4 0 100 ∷ entered 5 100 0 ∷ [];
       tape = line noon 1 3 100 2000 BidDepleted ∷ line (noon + 2000) 2 5 100 2001 Nothing ∷ [];
@@ -134,17 +134,17 @@ told_with_the_rules =
 
 -- Questions and the close
 
--- eight orders at 1000 by 1001; all buys but M rank at 2000
+-- eight orders at 1000 by 1001; all buys but qdp_mdo rank at 2000
 abbrev pub ranked_calls : List Call
 ranked_calls =
-    entry 0 (id 1) (plain Buy HiddenLimit Rest 100 1000)
-    ∷ entry 0 (id 2) (D 300)
-    ∷ entry 0 (id 3) (M Buy 1001 (negsuc 0))
-    ∷ entry 0 (id 4) (plain Buy MidpointPeg Rest 50 1000)
-    ∷ entry 0 (id 5) (plain Buy HiddenLimit Rest 1 1000)
-    ∷ entry 0 (id 6) (plain Sell DisplayedLimit Rest 7 1002)
-    ∷ entry 0 (id 7) (free_mdo Buy DisplayedMdo 1001 (pos 0))
-    ∷ entry 0 (id 8) (free_mdo Buy HiddenMdo 1001 (pos 0))
+    entry 0 (letter 1) (plain Buy HiddenLimit Rest 100 1000)
+    ∷ entry 0 (letter 2) (displayed_buy 300)
+    ∷ entry 0 (letter 3) (qdp_mdo Buy 1001 (negsuc 0))
+    ∷ entry 0 (letter 4) (plain Buy MidpointPeg Rest 50 1000)
+    ∷ entry 0 (letter 5) (plain Buy HiddenLimit Rest 1 1000)
+    ∷ entry 0 (letter 6) (plain Sell DisplayedLimit Rest 7 1002)
+    ∷ entry 0 (letter 7) (free_mdo Buy DisplayedMdo 1001 (pos 0))
+    ∷ entry 0 (letter 8) (free_mdo Buy HiddenMdo 1001 (pos 0))
     ∷ []
 
 abbrev pub after : List Call → Market
@@ -176,7 +176,7 @@ questions =
     ∷ []
 
 abbrev pub answered : Question → Question
-answered q = record { code = q.code; place = q.place; answer = asked (after ranked_calls) q.code q.place }
+answered question = record question { answer = asked (after ranked_calls) question.code question.place }
 
 -- why each resting order reaches as far as it does, lowest entry number first
 abbrev pub reasons : List Call → List Why
@@ -187,7 +187,7 @@ abbrev pub QuestionsAsTold : Type 0
 QuestionsAsTold =
     (map answered questions ≡ questions)
     × (closing (after ranked_calls) ≡ record { buys = 7; buy_shares = 1051; sells = 1; sell_shares = 7 })
-    × (reasons (entry 0 (id 1) (D 1) ∷ entry 0 (id 2) (M Buy 1001 (negsuc 0)) ∷ []) ≡ no_mdo ∷ discretion ∷ [])
+    × (reasons (entry 0 (letter 1) (displayed_buy 1) ∷ entry 0 (letter 2) (qdp_mdo Buy 1001 (negsuc 0)) ∷ []) ≡ no_mdo ∷ discretion ∷ [])
     × (reasons (depleted (negsuc 0) 1) ≡ no_mdo ∷ protected 1 (noon + 2000) ∷ [])
-    × (reasons (quote 0 1000 1010 ∷ entry 0 (id 1) (M Buy 999 (pos 0)) ∷ entry 0 (id 2) (free_mdo Buy HiddenMdo 1006 (pos 6)) ∷ [])
+    × (reasons (quote 0 1000 1010 ∷ entry 0 (letter 1) (qdp_mdo Buy 999 (pos 0)) ∷ entry 0 (letter 2) (free_mdo Buy HiddenMdo 1006 (pos 6)) ∷ [])
     ≡ at_limit ∷ at_midpoint ∷ [])

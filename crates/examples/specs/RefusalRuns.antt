@@ -1,5 +1,5 @@
 -- Worked examples of the refusals, each with what it leaves. The words are those of Examples.
-use Rattle.std.specs.Prelude.{ℕ, zero, suc, ◌+◌, ◌-◌, List, [], ◌∷◌, ◌++◌, negsuc}
+use Rattle.std.specs.Prelude.{ℕ, zero, suc, ◌+◌, ◌-◌, List, [], ◌∷◌, ◌++◌, replicate, negsuc}
 use Rattle.terms.specs.declared.kind.Kind.TheVariants.{DisplayedLimit}
 use Rattle.terms.specs.declared.side.Side.TheVariants.{Sell}
 use Rattle.terms.specs.declared.time_in_force.TimeInForce.TheVariants.{Rest}
@@ -7,22 +7,23 @@ use Rattle.tape.specs.declared.line.Mark.TheVariants.{BidDepleted, Nothing}
 use Rattle.rules.specs.declared.refusal.Refusal.TheVariants.{Identifier, Time, TapeShort, NameTaken, NoSuchOrder, BookFull, EntriesSpent}
 use Rattle.rules.specs.Answers.{Answer, entered, refused, ticked, cancelled}
 use Rattle.rules.specs.Calls.{Call, entry, cancel, tick, quote}
-use Rattle.rules.specs.Examples.{D, Example, noon, id, sell_at, buy_at, depleted, midpoint_sell, line, plain}
+use Rattle.examples.specs.Examples.{displayed_buy, Example, noon, letter, sell_at, buy_at, depleted, midpoint_sell, line, plain}
+use Rattle.rules.specs.Limits.{most_entries}
 use Rattle.rules.specs.Market.{Book}
 use Rattle.rules.specs.Runs.{opened}
 
 -- so many entries of one share each, with identifiers of two bytes
 abbrev pub entries_of : ℕ → List Call
 entries_of zero = []
-entries_of (suc n) = entry 0 ((33 + n) ∷ 65 ∷ []) (D 1) ∷ entries_of n
+entries_of (suc count) = entry 0 ((33 + count) ∷ 65 ∷ []) (displayed_buy 1) ∷ entries_of count
 
 abbrev pub accepted_from : ℕ → ℕ → List Answer
-accepted_from k zero = []
-accepted_from k (suc n) = entered k 0 0 ∷ accepted_from (k + 1) n
+accepted_from first zero = []
+accepted_from first (suc count) = entered first 0 0 ∷ accepted_from (first + 1) count
 
 -- a book at 1000 by 1001 in which all entries but so many are spent
 abbrev pub spent_but : ℕ → Book
-spent_but n = record { market = (opened 1000 1001).market; clock = 0; entries = 1000000 - n }
+spent_but left = record (opened 1000 1001) { entries = most_entries - left }
 
 abbrev pub told_of_refusals : List Example
 told_of_refusals =
@@ -31,9 +32,9 @@ told_of_refusals =
       book = opened 1000 1001;
       room = 64;
       calls =
-          entry 4 (33 ∷ 126 ∷ 65 ∷ 65 ∷ 65 ∷ 65 ∷ 65 ∷ 65 ∷ 65 ∷ 65 ∷ 65 ∷ 65 ∷ 65 ∷ 65 ∷ 65 ∷ 65 ∷ 65 ∷ 65 ∷ 65 ∷ 65 ∷ []) (D 1)
-          ∷ entry 9 (65 ∷ 65 ∷ 65 ∷ 65 ∷ 65 ∷ 65 ∷ 65 ∷ 65 ∷ 65 ∷ 65 ∷ 65 ∷ 65 ∷ 65 ∷ 65 ∷ 65 ∷ 65 ∷ 65 ∷ 65 ∷ 65 ∷ 65 ∷ 65 ∷ []) (D 1)
-          ∷ entry 9 [] (D 1)
+          entry 4 (33 ∷ 126 ∷ replicate 18 65) (displayed_buy 1)
+          ∷ entry 9 (replicate 21 65) (displayed_buy 1)
+          ∷ entry 9 [] (displayed_buy 1)
           ∷ cancel 9 (65 ∷ 32 ∷ [])
           ∷ cancel 9 (127 ∷ [])
           ∷ tick 4
@@ -48,11 +49,11 @@ told_of_refusals =
       room = 64;
       calls =
           tick noon
-          ∷ entry 86400000000 (id 1) (D 1)
-          ∷ entry 42 (id 1) (D 1)
+          ∷ entry 86400000000 (letter 1) (displayed_buy 1)
+          ∷ entry 42 (letter 1) (displayed_buy 1)
           ∷ quote 42 1000 1002
           ∷ cancel 42 []
-          ∷ entry noon (id 1) (D 1)
+          ∷ entry noon (letter 1) (displayed_buy 1)
           ∷ tick 86399999999
           ∷ [];
       answers = ticked ∷ refused Time ∷ refused Time ∷ refused Time ∷ refused Identifier ∷ entered 1 0 0 ∷ ticked ∷ [];
@@ -63,13 +64,13 @@ told_of_refusals =
       book = opened 1000 1001;
       room = 1;
       calls =
-          entry 0 (id 1) (D 1)
-          ∷ entry 0 (id 2) (D 1)
+          entry 0 (letter 1) (displayed_buy 1)
+          ∷ entry 0 (letter 2) (displayed_buy 1)
           ∷ tick 7
-          ∷ cancel 7 (id 1)
+          ∷ cancel 7 (letter 1)
           ∷ quote 7 1000 1002
-          ∷ entry 7 (id 3) (sell_at 1 1000)
-          ∷ entry 7 [] (D 1)
+          ∷ entry 7 (letter 3) (sell_at 1 1000)
+          ∷ entry 7 [] (displayed_buy 1)
           ∷ tick 86400000000
           ∷ [];
       answers =
@@ -82,11 +83,11 @@ told_of_refusals =
       room = 64;
       calls =
           depleted (negsuc 0) 100
-          ++ (entry (noon + 1000) (id 4) (midpoint_sell Rest 200)
-          ∷ entry (noon + 1999) (id 4) (sell_at 1 1000)
+          ++ (entry (noon + 1000) (letter 4) (midpoint_sell Rest 200)
+          ∷ entry (noon + 1999) (letter 4) (sell_at 1 1000)
           ∷ tick (noon + 1998)
-          ∷ entry (noon + 2000) (id 2) (D 1)
-          ∷ cancel (noon + 2000) (id 2)
+          ∷ entry (noon + 2000) (letter 2) (displayed_buy 1)
+          ∷ cancel (noon + 2000) (letter 2)
           ∷ []);
       answers =
           entered 1 0 0 ∷ entered 2 0 0 ∷ entered 3 100 0 ∷ entered 4 0 0 ∷ refused NameTaken ∷ refused Time ∷ entered 5 0 0 ∷ cancelled 1 ∷ [];
@@ -98,7 +99,7 @@ told_of_refusals =
       room = 64;
       calls =
           depleted (negsuc 0) 100
-          ++ (entry (noon + 1000) (id 4) (midpoint_sell Rest 100) ∷ cancel (noon + 2000) (id 4) ∷ tick (noon + 1999) ∷ cancel (noon + 2000) (id 2) ∷ []);
+          ++ (entry (noon + 1000) (letter 4) (midpoint_sell Rest 100) ∷ cancel (noon + 2000) (letter 4) ∷ tick (noon + 1999) ∷ cancel (noon + 2000) (letter 2) ∷ []);
       answers =
           entered 1 0 0 ∷ entered 2 0 0 ∷ entered 3 100 0 ∷ entered 4 0 0 ∷ refused NoSuchOrder ∷ refused Time ∷ cancelled 100 ∷ [];
       tape = line noon 1 3 100 2000 BidDepleted ∷ line (noon + 2000) 4 2 100 2001 Nothing ∷ [];
@@ -109,13 +110,13 @@ told_of_refusals =
       room = 64;
       calls =
           entries_of 64
-          ++ (entry 8 (id 0) (D 1)
+          ++ (entry 8 (letter 0) (displayed_buy 1)
           ∷ tick 7
-          ∷ entry 8 (id 0) (plain Sell DisplayedLimit Rest 1 1000)
-          ∷ entry 8 (33 ∷ 65 ∷ []) (D 1)
-          ∷ entry 8 (id 0) (buy_at 1 1000)
+          ∷ entry 8 (letter 0) (plain Sell DisplayedLimit Rest 1 1000)
+          ∷ entry 8 (33 ∷ 65 ∷ []) (displayed_buy 1)
+          ∷ entry 8 (letter 0) (buy_at 1 1000)
           ∷ cancel 8 (33 ∷ 65 ∷ [])
-          ∷ entry 8 (id 0) (D 1)
+          ∷ entry 8 (letter 0) (displayed_buy 1)
           ∷ []);
       answers =
           accepted_from 1 64
@@ -133,7 +134,7 @@ told_of_refusals =
     ∷ record {
       book = spent_but 64;
       room = 64;
-      calls = entries_of 64 ++ (entry 8 (id 0) (D 1) ∷ entry 8 (id 0) (sell_at 1 1000) ∷ []);
+      calls = entries_of 64 ++ (entry 8 (letter 0) (displayed_buy 1) ∷ entry 8 (letter 0) (sell_at 1 1000) ∷ []);
       answers = accepted_from 999937 64 ++ (refused BookFull ∷ refused EntriesSpent ∷ []);
       tape = [];
     }
@@ -142,13 +143,13 @@ told_of_refusals =
       book = spent_but 1;
       room = 64;
       calls =
-          entry 6 (id 1) (D 1)
-          ∷ entry 7 (id 2) (D 1)
+          entry 6 (letter 1) (displayed_buy 1)
+          ∷ entry 7 (letter 2) (displayed_buy 1)
           ∷ tick 6
-          ∷ entry 8 (id 1) (D 1)
+          ∷ entry 8 (letter 1) (displayed_buy 1)
           ∷ cancel 8 (65 ∷ 65 ∷ [])
-          ∷ cancel 8 (id 1)
-          ∷ entry 9 (id 1) (sell_at 1 1000)
+          ∷ cancel 8 (letter 1)
+          ∷ entry 9 (letter 1) (sell_at 1 1000)
           ∷ [];
       answers =
           entered 1000000 0 0
