@@ -20,6 +20,15 @@ blank = record { time = 0; partner = 0; taker = 0; shares = 0; price = 0; mark =
 pub pasted_is : (xs : List ℕ) (at : ℕ) (l : Line) → paste xs at (line_bytes l) 43 ≡ take at xs ++ (line_bytes l ++ drop (at + 43) xs)
 pasted_is xs at l = paste_all xs at (line_bytes l) 43 (sym (length_line l))
 
+-- the same, of the bytes after n lines
+pub row_pasted : (xs : List ℕ) (n : ℕ) (l : Line) → take (n * 43) xs ++ (line_bytes l ++ drop 43 (drop (n * 43) xs)) ≡ paste xs (n * 43) (line_bytes l) 43
+row_pasted xs n l =
+    ap (λ ys. take (n * 43) xs ++ (line_bytes l ++ ys)) (drop-drop 43 (n * 43) xs ∙ ap (λ m. drop m xs) (omega arith))
+    ∙ sym (pasted_is xs (n * 43) l)
+
+pub line_count : (xs : List ℕ) (n : ℕ) → length (lines_in xs n) ≡ n
+line_count xs n = length-map-range_with_len (λ i. line_at xs (i * 43)) 0 n
+
 pub pasted_here : (xs : List ℕ) (at : ℕ) (l : Line) → at + 43 ≤ length xs → InWidth l → line_at (paste xs at (line_bytes l) 43) at ≡ l
 pasted_here xs at l fits w =
     let front : length (take at xs) ≡ at = length-take at xs ∙ omega arith in

@@ -10,6 +10,10 @@ use Rattle.tape.specs.declared.line.Mark.TheVariants.{Nothing, BidDepleted, Offe
 abbrev pub layout : List (ℕ × ℕ)
 layout = (1, 8) ∷ (2, 4) ∷ (3, 4) ∷ (4, 4) ∷ (5, 4) ∷ (6, 1) ∷ []
 
+-- what that comes to: for each field one byte of tag, two of length, and the value
+abbrev pub line_length : ℕ
+line_length = 43
+
 abbrev pub mark_code : Mark → ℕ
 mark_code Nothing = 0
 mark_code BidDepleted = 1
@@ -66,7 +70,7 @@ unfoldable pub line_at : List ℕ → ℕ → Line
 line_at bytes place = line_of (λ index. number_at bytes (place + value_place layout index) (value_size index))
 
 abbrev pub lines_in : List ℕ → ℕ → List Line
-lines_in bytes count = map (λ index. line_at bytes (index * 43)) (range_with_len 0 count)
+lines_in bytes count = map (λ index. line_at bytes (index * line_length)) (range_with_len 0 count)
 
 -- The line that 43 bytes spell: none, unless they are that line's bytes, tags and lengths too.
 abbrev pub line_read : List ℕ → Option Line
@@ -75,7 +79,7 @@ line_read bytes = cond (bytes_eq bytes (line_bytes (line_at bytes 0))) (Some (li
 -- The line at a place in a row of lines, counted from 1.
 abbrev pub line_in : List ℕ → ℕ → Option Line
 line_in bytes zero = None
-line_in bytes (suc index) = line_read (take 43 (drop (index * 43) bytes))
+line_in bytes (suc index) = line_read (take line_length (drop (index * line_length) bytes))
 
 -- The values fit their fields, as those of every line that the code holds.
 abbrev pub InWidth : Line → Type 0

@@ -1,5 +1,5 @@
 ghost use Rattle.std.specs.Prelude.{drop, length, min, take, ◌*◌, ◌++◌, ◌+◌, ◌/◌, ◌≡◌, ◌≤◌};
-ghost use Rattle.tape.specs.Layout.{lines_in, tape_bytes};
+ghost use Rattle.tape.specs.Layout.{line_length, lines_in, tape_bytes};
 
 use crate::layout::{LINE_BYTES, line_at, put_line};
 use crate::line::Line;
@@ -10,14 +10,14 @@ use crate::tape::{Full, Tape};
 pub struct ByteTape<'a> {
     bytes: &'a mut [u8],
     used: usize,
-    ghost within: { used * 43 ≤ length bytes.now },
-    ghost spelled_out: { take (used * 43) bytes.now ≡ tape_bytes (lines_in bytes.now used) },
+    ghost within: { used * line_length ≤ length bytes.now },
+    ghost spelled_out: { take (used * line_length) bytes.now ≡ tape_bytes (lines_in bytes.now used) },
 }
 
 // Writes lines into bytes, as many as fit whole, and tells how many; the bytes after them stay as they are.
 pub fn write_lines(bytes: &mut [u8], lines: &[Line]) -> usize
-    ensures count { result ≡ min (length lines.now) (length bytes.old / 43) }
-    ensures bytes { bytes.new ≡ tape_bytes (take result lines.now) ++ drop (result * 43) bytes.old }
+    ensures count { result ≡ min (length lines.now) (length bytes.old / line_length) }
+    ensures bytes { bytes.new ≡ tape_bytes (take result lines.now) ++ drop (result * line_length) bytes.old }
 {
     let count = lines.len().min(bytes.len() / LINE_BYTES);
     let mut tape = ByteTape::new(bytes);
@@ -29,13 +29,13 @@ pub fn write_lines(bytes: &mut [u8], lines: &[Line]) -> usize
 
 impl<'a> ByteTape<'a> {
     ghost use Rattle.std.specs.Prelude.{[]};
-    ghost use Rattle.tape.specs.Bytes.{byte_lines, byte_free, byte_row};
+    ghost use Rattle.tape.specs.Bytes.{byte_free, byte_lines, byte_row, lender, lent_bytes};
 
     // An empty tape; what the bytes held counts for nothing.
     pub fn new(bytes: &'a mut [u8]) -> ByteTape<'a>
         ensures empty { byte_lines result ≡ [] }
-        ensures free { byte_free result ≡ length bytes.old / 43 }
-        ensures lent { (result.bytes.ghost_name ≡ bytes.entry.ghost_name) × (result.bytes.now ≡ bytes.old) × (result.used ≡ 0) }
+        ensures free { byte_free result ≡ length bytes.old / line_length }
+        ensures lent { (lender result ≡ bytes.entry.ghost_name) × (lent_bytes result ≡ bytes.old) }
     {
         ByteTape { bytes, used: 0 }
     }
@@ -50,10 +50,9 @@ impl<'a> ByteTape<'a> {
 }
 
 impl<'a> Tape for ByteTape<'a> {
-    ghost use Rattle.std.proofs.Math.Seq.{paste};
     ghost use Rattle.std.specs.Prelude.{MatchResult, [], ◌∷◌};
     ghost use Rattle.tape.specs.Layout.{line_bytes};
-    ghost use Rattle.tape.specs.Bytes.{byte_lines, byte_free};
+    ghost use Rattle.tape.specs.Bytes.{byte_free, byte_lines, byte_rest, byte_row, lender, lent_bytes};
 
     ghost lines = { λ s. byte_lines s };
 
@@ -71,8 +70,8 @@ impl<'a> Tape for ByteTape<'a> {
         ensures line { MatchResult result
             (λ _. (byte_lines self.new ≡ byte_lines self.old ++ line ∷ []) × (byte_free self.new + 1 ≡ byte_free self.old))
             (λ _. (byte_free self.old ≡ 0) × (byte_lines self.new ≡ byte_lines self.old) × (byte_free self.new ≡ 0)) }
-        ensures lent { (self.new.bytes.ghost_name ≡ self.old.bytes.ghost_name) × MatchResult result
-            (λ _. (self.new.bytes.now ≡ paste self.old.bytes.now (self.old.used * 43) (line_bytes line) 43) × (self.new.used ≡ self.old.used + 1))
+        ensures lent { (lender self.new ≡ lender self.old) × MatchResult result
+            (λ _. lent_bytes self.new ≡ byte_row self.old ++ (line_bytes line ++ drop line_length (byte_rest self.old)))
             (λ _. self.new ≡ self.old) }
     {
         if self.free_lines() == 0 {

@@ -3,7 +3,7 @@ ghost use Rattle.std.proofs.Math.Seq.{paste};
 ghost use Rattle.std.specs.List.{AllByRecursion};
 ghost use Rattle.std.specs.Prelude.{List, drop, length, take, ◌+◌, ◌<◌, ◌∷◌, ◌≡◌, ◌≤◌};
 ghost use Rattle.roll.specs.Rolls.{at_place};
-ghost use Rattle.tape.specs.Layout.{InWidth, line_at, line_bytes as line_bytes_of, line_in as line_in_of, line_read, tape_bytes};
+ghost use Rattle.tape.specs.Layout.{InWidth, line_at, line_bytes as line_bytes_of, line_in as line_in_of, line_length, line_read, tape_bytes};
 ghost use Rattle.tape.specs.declared.line.Line.{Line as TradeLine};
 
 use crate::line::{Line, Mark};
@@ -23,8 +23,8 @@ fn put_field(bytes: &mut [u8], at: usize, tag: u8, value: &[u8])
 
 // Writes a line over the 43 bytes from a place on, and no other byte. The sizes of the fields differ, so each has its own line here.
 pub(crate) fn put_line(bytes: &mut [u8], at: usize, line: Line)
-    requires { at + 43 ≤ length bytes.old }
-    ensures { bytes.new ≡ paste bytes.old at (line_bytes_of line) 43 }
+    requires { at + line_length ≤ length bytes.old }
+    ensures { bytes.new ≡ paste bytes.old at (line_bytes_of line) line_length }
 {
     put_field(bytes, at, 1, &line.time.to_be_bytes());
     put_field(bytes, at + 11, 2, &line.partner.to_be_bytes());
@@ -53,7 +53,7 @@ fn bytes_at<const N: usize>(bytes: &[u8], at: usize) -> [u8; N]
 
 // What the value bytes of the line that begins at a place say.
 pub(crate) fn line_at(bytes: &[u8], at: usize) -> Line
-    requires { at + 43 ≤ length bytes.now }
+    requires { at + line_length ≤ length bytes.now }
     ensures { result ≡ line_at bytes.now at }
 {
     Line {

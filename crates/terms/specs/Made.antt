@@ -18,8 +18,12 @@ terms_of terms =
       offset = terms.offset;
     }
 
+-- what a ticket holds
+abbrev pub terms_in : Ticket → Terms
+terms_in ticket = ticket.terms
+
 abbrev pub ticket_terms : Ticket → OrderTerms
-ticket_terms ticket = terms_of ticket.terms
+ticket_terms ticket = terms_of (terms_in ticket)
 
 -- a made ticket as its terms
 abbrev pub as_terms : Result Ticket Refusal → Result OrderTerms Refusal

@@ -87,8 +87,8 @@ fn parts_go_together(
 }
 
 impl Ticket {
-    ghost use Rattle.terms.specs.Made.{as_terms};
     ghost use Rattle.terms.specs.Judging.{judged, ticket_from};
+    ghost use Rattle.terms.specs.Made.{as_terms, terms_in};
 
     // Codes are judged first, then shares, limit, offset, and whether the parts go together; the first fault is the refusal.
     pub fn new(draft: Draft) -> Result<Ticket, Refusal>
@@ -130,7 +130,7 @@ impl Ticket {
     }
 
     pub fn terms(&self) -> Terms
-        ensures { result ≡ self.now.terms }
+        ensures { result ≡ terms_in self.now }
     {
         self.terms
     }

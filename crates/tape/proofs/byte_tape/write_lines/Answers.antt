@@ -1,22 +1,28 @@
-use Rattle.std.proofs.Common.{◌≡◌, ◌+◌, ◌*◌, ◌/◌, ◌<◌, [], ◌∷◌, ◌++◌, length, take, Ok, Err, Result, ap, ◌∙◌, arith, rules, MatchResult, length-take}
+use Rattle.std.proofs.Common.{◌≡◌, ◌+◌, ◌*◌, ◌/◌, ◌<◌, [], ◌∷◌, ◌++◌, length, take, drop, Ok, Err, Result, sym, ap, ◌∙◌, arith, rules, MatchResult, length-append, length-take}
 use borrow.Author.Rules.{get_or_read}
 use lib.Seq.{paste}
 use Rattle.tape.specs.declared.byte_tape.ByteTape.{ByteTape}
 use Rattle.tape.specs.declared.line.Line.{Line}
 use Rattle.tape.specs.declared.tape.Full.{Full}
 use Rattle.std.specs.Result.{IsOk}
-use Rattle.tape.specs.Bytes.{byte_free, byte_lines}
-use Rattle.tape.specs.Layout.{line_bytes}
-use Rattle.tape.proofs.Rows.{row_length, row_written}
+use Rattle.tape.specs.Bytes.{byte_free, byte_lines, byte_rest, byte_row, lender, lent_bytes}
+use Rattle.tape.specs.Layout.{line_bytes, line_length}
+use Rattle.tape.proofs.Rows.{line_count, row_length, row_pasted, row_written}
 use Rattle.tape.proofs.byte_tape.write_lines.Goals as goal
 
 -- a write to a tape that has a free line
 written : (was is : ByteTape) (line : Line) (r : Result (Unit {0}) Full)
     → MatchResult r (λ _. (byte_lines is ≡ byte_lines was ++ line ∷ []) × (byte_free is + 1 ≡ byte_free was)) (λ _. (byte_free was ≡ 0) × (byte_lines is ≡ byte_lines was) × (byte_free is ≡ 0))
-    → (is.bytes.ghost_name ≡ was.bytes.ghost_name) × MatchResult r (λ _. (is.bytes.now ≡ paste was.bytes.now (was.used * 43) (line_bytes line) 43) × (is.used ≡ was.used + 1)) (λ _. is ≡ was)
+    → (lender is ≡ lender was) × MatchResult r (λ _. lent_bytes is ≡ byte_row was ++ (line_bytes line ++ drop line_length (byte_rest was))) (λ _. is ≡ was)
     → 0 < byte_free was
     → (is.bytes.now ≡ paste was.bytes.now (was.used * 43) (line_bytes line) 43) × (is.used ≡ was.used + 1)
-written was is line (Ok x) lines lent free = lent.1
+written was is line (Ok x) lines lent free = (
+  lent.1 ∙ row_pasted was.bytes.now was.used line,
+  sym (line_count is.bytes.now is.used)
+      ∙ ap length lines.0
+      ∙ length-append (byte_lines was) (line ∷ [])
+      ∙ ap (λ n. n + 1) (line_count was.bytes.now was.used),
+)
 written was is line (Err e) lines lent free = absurd (omega (arith, lines.0))
 
 ok_written : (was is : ByteTape) (line : Line) (r : Result (Unit {0}) Full)
