@@ -1,8 +1,7 @@
 -- The law of loads, by the definition. Cite load_lawful.
-use Rattle.std.proofs.Common.{◌≡◌, ℕ, zero, suc, ◌+◌, ◌<◌, ◌≤◌, Bool, true, false, ltb, List, [], ◌∷◌, length, Some, None, Ok, Err, Option, Result, sym, refl, ap, ◌∙◌, inl, inr, add-zero, arith}
+use Rattle.std.proofs.Common.{ℕ, zero, suc, Bool, true, false, ltb, List, [], length, Some, None, Ok, Err, Option, Result, sym, refl, subst, inl, inr, arith}
 use Rattle.std.specs.List.{AllByRecursion as Every}
 use Rattle.std.proofs.ByRecursion.{All-append, All-push}
-use Rattle.std.proofs.lemmas.List.{length-append}
 use Rattle.terms.specs.Terms.{OrderTerms}
 use Rattle.terms.specs.Judging.{ticket_from}
 use Rattle.terms.specs.declared.refusal.Refusal.{Refusal}
@@ -10,17 +9,16 @@ use Rattle.register.specs.declared.fault.Fault.{Fault}
 use Rattle.register.specs.declared.fault.Fault.TheVariants.{Ticket}
 use Rattle.register.specs.Faults.{listed_ticket}
 use Rattle.register.specs.Layout.{Listed}
-use Rattle.register.specs.Reading.{Cursor, place_in, read_order, read_next}
-use Rattle.register.proofs.Tails.{order_shortens}
+use Rattle.register.specs.Reading.{Cursor, place_in, read_next}
 use Rattle.rules.specs.Answers.{Answer, entered, cancelled, quoted, ticked, refused}
 use Rattle.rules.specs.Calls.{entry}
 use Rattle.rules.specs.Market.{Book as RuleBook}
 use Rattle.book_register.specs.declared.load.LoadFault.{LoadFault}
 use Rattle.book_register.specs.Faults.{slip_of}
 use Rattle.book_register.specs.Loads.{Load, Ended, entry_fault, made, with_attempt, stopped_if, go_on, slip_put, accounted, attempt_with, attempt, after_order, next_loaded, load_on, load_of}
-use Rattle.book_register.specs.Law.{EntryAt, OfOneOrder, Stops, Lists, LawfulLoad}
+use Rattle.book_register.specs.Law.{EntryAt, OfOneOrder, Stops, OneByOne, LawfulLoad}
+use Rattle.book_register.proofs.Dealt.{deals}
 use Rattle.book_register.proofs.Layers.{PlainNext, next_plain}
-use Rattle.book_register.proofs.Steps.{load_end, load_order}
 
 -- a slip may be due for the fault
 abbrev Slips : Option LoadFault → Type 0
@@ -85,47 +83,20 @@ module _ (time room : ℕ) where
     load_keeps (suc n) total rest l h =
         next_lawful (place_in total rest) (read_next total rest) l (load_on time room places n total) (next_plain total rest) h (load_keeps n total)
 
-    -- orders entered and slips, together
-    abbrev dealt_with : Load → ℕ
-    dealt_with l = l.entered + length l.slips
-
-    one_dealt : (place : ℕ) (fault : Option LoadFault) (l : Load) (more : Load → Ended) (m : ℕ) → ((k : Load) → (more k).stop ≡ None → dealt_with (more k).load ≡ dealt_with k + m)
-        → (go_on (accounted places place fault l).stop (accounted places place fault l).load more).stop ≡ None
-        → dealt_with (go_on (accounted places place fault l).stop (accounted places place fault l).load more).load ≡ dealt_with l + suc m
-    one_dealt place None l more m ih e = omega (arith, ih (accounted places place None l).load e)
-    one_dealt place (Some f) l more m ih e = put (ltb (length l.slips) places) e
-      where
-        put : (free : Bool) → (go_on (slip_put place f l free).stop (slip_put place f l free).load more).stop ≡ None → dealt_with (go_on (slip_put place f l free).stop (slip_put place f l free).load more).load ≡ dealt_with l + suc m
-        put true e = omega (arith, ih (slip_put place f l true).load e, length-append l.slips (slip_of f ∷ []))
-        put false e = let z : ◌≡◌ {A = ℕ} 0 1 = cc in absurd (omega arith)
-
-    shortened : (total : ℕ) (rest : List ℕ) (c : Cursor) → read_next total rest ≡ Some (Ok c) → length c.rest < length rest
-    shortened total [] c e = let z : ◌≡◌ {A = ℕ} 0 1 = cc in absurd (omega arith)
-    shortened total (b ∷ bs) c e = let same : Ok c ≡ read_order total (b ∷ bs) = cc in order_shortens total (b ∷ bs) c same
-
-    all_dealt : (turns total : ℕ) (rest : List ℕ) (l : Load) (os : List Listed) → length rest ≤ turns → Lists total rest os → (load_on time room places turns total rest l).stop ≡ None
-        → dealt_with (load_on time room places turns total rest l).load ≡ dealt_with l + length os
-    all_dealt turns total rest l [] h reads e =
-        ap (λ (z : Ended). dealt_with z.load) (load_end time room places total rest l turns (sym reads)) ∙ sym (add-zero (dealt_with l))
-    all_dealt zero total rest l (o ∷ os) h reads e = absurd (omega (arith, shortened total rest _ reads.1))
-    all_dealt (suc n) total rest l (o ∷ os) h reads e =
-        let place = place_in total rest in
-        let c : Cursor = record { order = o; rest = reads.0 } in
-        let step = load_order time room places total rest l n c (sym reads.1) in
-        let a = attempt time room place o l.book in
-        let ended : (load_on time room places (suc n) total rest l).load ≡ _ = ap (λ (z : Ended). z.load) step in
-        ap dealt_with ended
-        ∙ one_dealt place a.fault (with_attempt a l) (load_on time room places n total reads.0) (length os)
-        (λ k f. all_dealt n total reads.0 k os (omega (arith, h, shortened total rest c reads.1)) reads.2 f)
-        (sym (ap (λ (z : Ended). z.stop) step) ∙ e)
-
-    pub load_lawful : (register : List ℕ) (b : RuleBook) → LawfulLoad time register (load_of time room places register b)
+    pub load_lawful : (register : List ℕ) (b : RuleBook) → LawfulLoad time room places register b (load_of time room places register b)
     load_lawful register b =
         let start : Load = record { calls = []; entered = 0; slips = []; book = b } in
         let keeps = load_keeps (length register) (length register) register start (tt, tt) in
+        let dealt = deals time room places (length register) (length register) register start (omega arith) (omega arith) in
         record {
+          orders = dealt.orders;
+          left = dealt.left;
+          due = dealt.due;
+          listed = dealt.listed;
+          one_by_one = subst (λ z. OneByOne time room dealt.orders b z dealt.due (load_of time room places register b).load.book) (sym dealt.made_so) dealt.one_by_one;
+          ends = dealt.ends;
+          accounted = omega (arith, dealt.count);
           at_time = keeps.0.0;
           slips = keeps.0.1;
           stop = keeps.1;
-          accounted = λ os reads e. omega (arith, all_dealt (length register) (length register) register start os (omega arith) reads e);
         }

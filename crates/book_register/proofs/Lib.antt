@@ -1,8 +1,10 @@
 pub mod Attempts
+pub mod Dealt
 pub mod Lawful
 pub mod Layers
 pub mod Nexts
 pub mod OrdersWritten
+pub mod Slips
 pub mod SoFar
 pub mod Steps
 pub mod Tickets

@@ -1,6 +1,6 @@
 -- A load that has come so far: its definition, begun at the start, comes to what the definition makes of the rest from here.
 -- Cite so_far_none at the start, so_far_entered and so_far_slipped after an order, and finished, broken and slips_full at the end.
-use Rattle.std.proofs.Common.{◌≡◌, ℕ, suc, ◌+◌, ◌-◌, ◌<◌, ◌≤◌, true, false, ltb, List, [], ◌∷◌, ◌++◌, length, Some, None, Ok, Err, Option, Result, sym, refl, ap, ◌∙◌, append_assoc, append-nil, add-zero, arith}
+use Rattle.std.proofs.Common.{◌≡◌, ℕ, suc, ◌+◌, ◌-◌, ◌<◌, ◌≤◌, true, false, ltb, List, [], ◌∷◌, ◌++◌, length, Some, None, Ok, Err, Option, Result, sym, refl, ap, ◌∙◌, subst, arith}
 use Rattle.std.proofs.lemmas.List.{length-append}
 use Rattle.std.proofs.lemmas.Bool.{lt-ltb, le-ltb}
 use Rattle.terms.specs.Terms.{OrderTerms}
@@ -11,20 +11,21 @@ use Rattle.register.specs.Layout.{Listed}
 use Rattle.register.specs.Parts.{listed_of}
 use Rattle.register.specs.Reading.{place_in, read_next}
 use Rattle.roll.specs.declared.roll.Roll.{Roll}
-use Rattle.roll.specs.Rolls.{records, room_left}
+use Rattle.roll.specs.Rolls.{room_left}
 use Rattle.rules.specs.Calls.{Call}
 use Rattle.rules.specs.Market.{Book as RuleBook}
 use Rattle.rules.specs.Runs.{run}
 use Rattle.book.specs.Running.{Running}
 use Rattle.book_register.specs.declared.load.LoadFault.{LoadFault}
 use Rattle.book_register.specs.declared.load.LoadFault.TheVariants.{Register, SlipsFull}
-use Rattle.book_register.specs.declared.slip.Slip.{Slip}
-use Rattle.book_register.specs.declared.slip.Loaded.{Loaded}
+use Rattle.book_register.specs.declared.load.Slip.{Slip}
+use Rattle.book_register.specs.declared.load.Loaded.{Loaded}
 use Rattle.book_register.specs.Faults.{slip_of}
 use Rattle.book_register.specs.Loads.{Load, Ended, Attempt, made, with_attempt, stopped_if, go_on, slip_put, accounted, attempt_with, attempt, load_on, load_answer}
-use Rattle.book_register.specs.Loaded.{fault_of, attempt_at, Attempted, load_into, LoadedInto}
+use Rattle.book_register.specs.Loaded.{fault_of, attempt_at, Attempted, load_into, SlipsAdded, LoadedInto}
 use Rattle.book_register.proofs.Lawful.{load_lawful}
 use Rattle.book_register.proofs.Nexts.{Came}
+use Rattle.book_register.proofs.Slips.{Pushed, none_added, one_added, still_added}
 use Rattle.book_register.proofs.Steps.{load_end, load_fault, load_order}
 
 -- a run of some calls and then of others
@@ -67,8 +68,7 @@ module _ (before : Running) (roll : Roll Slip) (time : ℕ) (register : List ℕ
     pub enough : length rest ≤ turns
     pub same : load_into before roll time register ≡ load_on time room (room_left roll) turns (length register) rest (load_with calls so_entered slips here.book)
     pub ran : here.book ≡ (run room calls before.book).book
-    pub put : records roll_here ≡ records roll ++ slips
-    pub places : room_left roll_here + length slips ≡ room_left roll
+    pub put : SlipsAdded roll roll_here slips
     pub count : so_put ≡ length slips
     pub capacity : here.room ≡ room
 
@@ -81,8 +81,7 @@ module _ (before : Running) (roll : Roll Slip) (time : ℕ) (register : List ℕ
         enough = omega arith;
         same = refl;
         ran = sym (run_none room before.book);
-        put = sym (append-nil (records roll));
-        places = add-zero (room_left roll);
+        put = none_added roll;
         count = refl;
         capacity = refl;
       }
@@ -91,17 +90,15 @@ module _ (before : Running) (roll : Roll Slip) (time : ℕ) (register : List ℕ
   over : (here : Running) (roll_here : Roll Slip) (r : Result Loaded LoadFault) (l : Load) (stop : Option LoadFault) → load_into before roll time register ≡ stopped_if stop l
       → r ≡ load_answer stop l
       → here.book ≡ (run room l.calls before.book).book
-      → records roll_here ≡ records roll ++ l.slips
-      → room_left roll_here + length l.slips ≡ room_left roll
+      → SlipsAdded roll roll_here l.slips
       → here.room ≡ room
       → LoadedInto before here roll roll_here time register r
-  over here roll_here r l stop same answer ran put places capacity =
+  over here roll_here r l stop same answer ran put capacity =
       record {
         answer = answer ∙ ap (λ (z : Ended). load_answer z.stop z.load) (sym same);
         ran = ran ∙ ap (λ (z : Ended). (run room z.load.calls before.book).book) (sym same);
         capacity = capacity;
-        slips = put ∙ ap (λ (z : Ended). records roll ++ z.load.slips) (sym same);
-        places = ap (λ (z : Ended). room_left roll_here + length z.load.slips) same ∙ places;
+        slips = subst (λ (z : Ended). SlipsAdded roll roll_here z.load.slips) (sym same) put;
         lawful = load_lawful time room (room_left roll) register before.book;
       }
 
@@ -112,12 +109,12 @@ module _ (before : Running) (roll : Roll Slip) (time : ℕ) (register : List ℕ
     pub finished : None ≡ read_next (length register) rest → LoadedInto before here roll roll_here time register (Ok (record { entered = n; slips = k }))
     finished e =
         over here roll_here _ so_far None (s.same ∙ load_end time room (room_left roll) (length register) rest so_far s.turns e)
-        (ap (λ m. Ok (record { entered = n; slips = m })) s.count) s.ran s.put s.places s.capacity
+        (ap (λ m. Ok (record { entered = n; slips = m })) s.count) s.ran s.put s.capacity
 
     pub broken : (fault : Fault) → 0 < length rest → Some (Err fault) ≡ read_next (length register) rest → LoadedInto before here roll roll_here time register (Err (Register fault))
     broken fault h e =
         over here roll_here _ so_far (Some (Register fault)) (s.same ∙ load_fault time room (room_left roll) (length register) rest so_far s.turns fault (omega (arith, s.enough)) e)
-        refl s.ran s.put s.places s.capacity
+        refl s.ran s.put s.capacity
 
     -- an order came next, and was attempted
     module _ (o : ListedOrder) (left : List ℕ) (came : Came register rest left o) (after : Running) (r : Result (Unit {0}) LoadFault) (tried : Attempted here after time o.place (listed_of o) r) where
@@ -178,16 +175,15 @@ module _ (before : Running) (roll : Roll Slip) (time : ℕ) (register : List ℕ
             same = stepped None told;
             ran = ran_after;
             put = s.put;
-            places = s.places;
             count = s.count;
             capacity = tried.capacity ∙ s.capacity;
           }
 
       module _ (fault : LoadFault) (told : fault_of r ≡ Some fault) where
-        pub so_far_slipped : (roll_after : Roll Slip) → records roll_after ≡ records roll_here ++ (slip_of fault ∷ []) → room_left roll_after + 1 ≡ room_left roll_here → SoFar after roll_after left n (k + 1)
-        so_far_slipped roll_after pushed less =
+        pub so_far_slipped : (roll_after : Roll Slip) → Pushed roll_here roll_after (slip_of fault) → SoFar after roll_after left n (k + 1)
+        so_far_slipped roll_after pushed =
             let more = load_on time room (room_left roll) turns_left (length register) left in
-            let free : ltb (length s.slips) (room_left roll) ≡ true = lt-ltb (length s.slips) (room_left roll) (omega (arith, less, s.places)) in
+            let free : ltb (length s.slips) (room_left roll) ≡ true = lt-ltb (length s.slips) (room_left roll) (omega (arith, pushed.free, s.put.free)) in
             let long = length-append s.slips (slip_of fault ∷ []) in
             record {
               calls = calls_after;
@@ -196,16 +192,15 @@ module _ (before : Running) (roll : Roll Slip) (time : ℕ) (register : List ℕ
               enough = enough_left;
               same = stepped (Some fault) told ∙ ended_on _ _ more (ap (slip_put place fault load_after) free);
               ran = ran_after;
-              put = pushed ∙ ap (λ z. z ++ (slip_of fault ∷ [])) s.put ∙ append_assoc (records roll) s.slips (slip_of fault ∷ []);
-              places = omega (arith, long, less, s.places);
+              put = one_added roll roll_here roll_after s.slips s.put (slip_of fault) pushed;
               count = omega (arith, long, s.count);
               capacity = tried.capacity ∙ s.capacity;
             }
 
-        pub slips_full : (roll_after : Roll Slip) → records roll_after ≡ records roll_here → room_left roll_here ≡ 0 → room_left roll_after ≡ 0 → LoadedInto before after roll roll_after time register (Err (SlipsFull o.place))
-        slips_full roll_after kept full still =
+        pub slips_full : (roll_after : Roll Slip) → room_left roll_here ≡ 0 → roll_after ≡ roll_here → LoadedInto before after roll roll_after time register (Err (SlipsFull o.place))
+        slips_full roll_after full still =
             let more = load_on time room (room_left roll) turns_left (length register) left in
-            let none : ltb (length s.slips) (room_left roll) ≡ false = le-ltb (length s.slips) (room_left roll) (omega (arith, s.places)) in
+            let none : ltb (length s.slips) (room_left roll) ≡ false = le-ltb (length s.slips) (room_left roll) (omega (arith, full, s.put.free)) in
             over after roll_after _ load_after (Some (SlipsFull place))
             (stepped (Some fault) told ∙ ended_on _ _ more (ap (slip_put place fault load_after) none))
-            (ap (λ m. Err (SlipsFull m)) came.placed) ran_after (kept ∙ s.put) (omega (arith, s.places)) (tried.capacity ∙ s.capacity)
+            (ap (λ m. Err (SlipsFull m)) came.placed) ran_after (still_added roll roll_here roll_after s.slips s.put still) (tried.capacity ∙ s.capacity)

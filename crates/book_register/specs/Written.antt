@@ -11,21 +11,21 @@ use Rattle.register.specs.Refusal.{mark_if}
 use Rattle.register.specs.RoundTrip.{ReadsAs, with_left}
 
 abbrev pub listed_order : Order → Listed
-listed_order o = order_of o.identifier o.terms o.left
+listed_order order = order_of order.identifier order.terms order.left
 
 abbrev pub orders_listed : Book → List Listed
-orders_listed b = map listed_order b.market.orders
+orders_listed book = map listed_order book.market.orders
 
 -- the listed order is a lawful ticket again, with the order's terms and the shares that are left
 abbrev pub ReadsAsTicket : Order → Type 0
-ReadsAsTicket o = ticket_from (listed_order o).draft ≡ Ok (with_left o.terms o.left)
+ReadsAsTicket order = ticket_from (listed_order order).draft ≡ Ok (with_left order.terms order.left)
 
 -- A book written into a buffer: the whole orders that fit, then the fields that fit of the next one, then what was there. What is
 -- told written reads back as the orders of the book; where one does not fit, as those before it.
-pub record Written (b : Book) (before after : List ℕ) (r : Result ℕ NoRoom) : Type 0 where
-  pub bytes : after ≡ (with_orders (fresh before) (orders_listed b)).bytes
-  pub outcome : r ≡ mark_if (orders_fit (room (fresh before)) (orders_listed b)) (with_orders (fresh before) (orders_listed b)).mark
-  pub reads_back : MatchResult r
-      (λ mark. ReadsAs mark (take mark after) (orders_listed b))
-      (λ e. ReadsAs e.place (take e.place after) (whole_orders (room (fresh before)) (orders_listed b)))
-  pub tickets : Every ReadsAsTicket b.market.orders
+pub record Written (book : Book) (before after : List ℕ) (result : Result ℕ NoRoom) : Type 0 where
+  pub bytes : after ≡ (with_orders (fresh before) (orders_listed book)).bytes
+  pub outcome : result ≡ mark_if (orders_fit (room (fresh before)) (orders_listed book)) (with_orders (fresh before) (orders_listed book)).mark
+  pub reads_back : MatchResult result
+      (λ mark. ReadsAs mark (take mark after) (orders_listed book))
+      (λ refused. ReadsAs refused.place (take refused.place after) (whole_orders (room (fresh before)) (orders_listed book)))
+  pub tickets : Every ReadsAsTicket book.market.orders

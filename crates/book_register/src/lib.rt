@@ -2,9 +2,7 @@
 #![tactic(auto)]
 
 mod load;
-mod slip;
 mod write;
 
-pub use load::{LoadFault, load_register};
-pub use slip::{Loaded, Slip};
+pub use load::{LoadFault, Loaded, Slip, load_register};
 pub use write::write_book;

@@ -5,7 +5,6 @@ ghost use Rattle.book_register.specs.Loaded.{Attempted, LoadedInto};
 ghost use Rattle.book_register.specs.declared.load.LoadFault.TheVariants.{Register};
 ghost use Rattle.register.specs.Parts.{listed_of};
 
-use crate::slip::{Loaded, Slip};
 use book::Book;
 use directory::Directory;
 use register::{Fault, Listed, Reader, Report};
@@ -14,6 +13,21 @@ use rules::Refusal;
 use std::error::Error;
 use std::fmt;
 use tape::Tape;
+
+// A fault in numbers, as it is put on a roll and printed.
+#[derive(Clone, Copy, PartialEq, Eq, Debug, Default, Drop)]
+pub struct Slip {
+    pub number: u8,
+    pub layer: u8,
+    pub place: usize,
+}
+
+// A finished load: the orders entered, and the slips put.
+#[derive(Clone, Copy, Default, PartialEq, Eq, Debug, Drop)]
+pub struct Loaded {
+    pub entered: usize,
+    pub slips: usize,
+}
 
 // Each fault holds its place, counted from 0: of the field's first byte, or of the order's.
 #[derive(Clone, Copy, PartialEq, Eq, Debug, Drop)]

@@ -16,10 +16,19 @@ fault_number (CutShort place) = 14
 fault_number (Malformed place) = 15
 fault_number (Ticket why place) = refusal_number why
 
+abbrev pub field_layer : ℕ
+field_layer = 1
+
+abbrev pub order_layer : ℕ
+order_layer = 2
+
+abbrev pub ticket_layer : ℕ
+ticket_layer = 3
+
 abbrev pub fault_layer : Fault → ℕ
-fault_layer (CutShort place) = 1
-fault_layer (Malformed place) = 2
-fault_layer (Ticket why place) = 3
+fault_layer (CutShort place) = field_layer
+fault_layer (Malformed place) = order_layer
+fault_layer (Ticket why place) = ticket_layer
 
 abbrev pub fault_place : Fault → ℕ
 fault_place (CutShort place) = place

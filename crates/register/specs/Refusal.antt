@@ -1,5 +1,6 @@
 -- What a writer answers: done, or refused for want of room.
 use Rattle.std.specs.Prelude.{ℕ, Bool, if◌then◌else◌, List, Ok, Err, codes, Result}
+use Rattle.register.specs.Faults.{order_layer}
 use Rattle.register.specs.Reports.{told}
 use Rattle.register.specs.declared.writer.NoRoom.{NoRoom}
 
@@ -16,7 +17,7 @@ abbrev pub no_room_number : ℕ
 no_room_number = 16
 
 abbrev pub no_room_layer : ℕ
-no_room_layer = 2
+no_room_layer = order_layer
 
 abbrev pub no_room_words : List ℕ
 no_room_words = codes "no room for the order"

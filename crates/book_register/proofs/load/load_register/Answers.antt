@@ -1,10 +1,11 @@
-use Rattle.std.proofs.Common.{[], ◌∷◌, ◌++◌, refl, ap, ◌∙◌, length, arith, rules}
+use Rattle.std.proofs.Common.{◌≡◌, [], refl, ap, ◌∙◌, length, subst, arith, rules}
 use Rattle.std.proofs.lemmas.Result.{err_from_is_err_and}
 use Rattle.register.specs.Readers.{register_of, rest_of}
-use Rattle.roll.specs.Rolls.{records}
-use Rattle.book_register.specs.declared.slip.Slip.{Slip}
+use Rattle.book_register.specs.declared.load.Slip.{Slip}
+use Rattle.book_register.specs.Faults.{slip_of}
 use Rattle.book_register.proofs.Nexts.{Came, nothing_came, order_came, fault_came}
 use Rattle.book_register.proofs.Attempts.{pushed_so, full_so}
+use Rattle.book_register.proofs.Slips.{Pushed}
 use Rattle.book_register.proofs.SoFar.{so_far_none, so_far_entered, so_far_slipped, finished, broken, slips_full}
 use Rattle.book_register.proofs.load.load_register.Goals as goal
 use Rattle.book_register.proofs.load.load_register.Goals.{In_ok-order}
@@ -49,21 +50,24 @@ pub loop-next-preserved : goal.loop-next-preserved
 loop-next-preserved g c =
     let inv = c.loop-next.invariant in
     let next = c.in-Some.ensures.steps in
-    let pushed = pushed_so c.push.result _ _ c.in_ok-map_err-in-Err.ensures.cases c.push.ensures.pushed in (
+    let pushed = pushed_so c.push.result _ _ c.in_ok-map_err-in-Err.ensures.cases c.push.ensures.pushed in
+    let written = pushed_so c.push.result _ _ c.in_ok-map_err-in-Err.ensures.cases c.push.ensures.lent.1 in
+    let slip : c.slip.result ≡ slip_of c.in-Err.fault = c.slip.ensures in (
       tt,
       tt,
       next.1 ∙ inv.2,
       omega (arith, inv.3, next.2),
       so_far_slipped _ _ _ _ _ _ _ _ _ inv.4 _ _ (came g (goal.at.loop-next-preserved g c).In_ok-order) _ _ c.in-Err.ensures c.in-Err.fault refl c.push.new.self
-          (pushed.0 ∙ ap (λ (s : Slip). records c.loop-next.slips ++ (s ∷ [])) c.slip.ensures) pushed.1,
+          (subst (λ (s : Slip). Pushed c.loop-next.slips c.push.new.self s) slip (record { added = pushed.0; free = pushed.1; lent = c.push.ensures.lent.0; written = written })),
     )
 
 pub returns-in_err-map_err-in-Err : goal.returns-in_err-map_err-in-Err
 returns-in_err-map_err-in-Err g c =
     let full = full_so c.in_ok-order.order.place c.in_err-map_err-in-Err.field-0.0 c.push.result _ _ _ c.in_err-map_err-in-Err.ensures.cases (λ e h. search rules) c.push.ensures.pushed in
+    let still = full_so c.in_ok-order.order.place c.in_err-map_err-in-Err.field-0.0 c.push.result _ _ _ c.in_err-map_err-in-Err.ensures.cases (λ e h. search rules) c.push.ensures.lent.1 in
     let p = err_from_is_err_and c.from_residual-in_err-map_err-in-Err.result c.from_residual-in_err-map_err-in-Err.ensures.1 in
     rw (p.1, p.2, full.1)
-    (slips_full _ _ _ _ _ _ _ _ _ c.loop-next.invariant.4 _ _ (came g (goal.at.returns-in_err-map_err-in-Err g c).In_ok-order) _ _ c.in-Err.ensures c.in-Err.fault refl c.push.new.self full.0.1.2 full.0.1.0 full.0.1.3)
+    (slips_full _ _ _ _ _ _ _ _ _ c.loop-next.invariant.4 _ _ (came g (goal.at.returns-in_err-map_err-in-Err g c).In_ok-order) _ _ c.in-Err.ensures c.in-Err.fault refl c.push.new.self full.0.1.0 still.0.1)
 
 pub returns : goal.returns
 returns g c =
