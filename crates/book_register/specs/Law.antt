@@ -5,12 +5,14 @@ use Rattle.std.specs.Prelude.{◌≡◌, ℕ, ◌+◌, ◌⊎◌, List, [], ◌�
 use Rattle.std.specs.List.{AllByRecursion as Every}
 use Rattle.terms.specs.declared.refusal.Refusal.{Refusal as TicketRefusal}
 use Rattle.terms.specs.Codes.{refusal_number as ticket_number}
-use Rattle.terms.specs.Terms.{OrderTerms, ticket_from}
+use Rattle.terms.specs.Terms.{OrderTerms}
+use Rattle.terms.specs.Judging.{ticket_from}
 use Rattle.register.specs.Faults.{field_layer, order_layer, ticket_layer}
 use Rattle.register.specs.Layout.{Listed}
 use Rattle.register.specs.Reading.{place_in, read_next}
 use Rattle.rules.specs.declared.refusal.Refusal.{Refusal}
-use Rattle.rules.specs.Answers.{entered, refused, refusal_number}
+use Rattle.rules.specs.Answers.{entered, refused}
+use Rattle.rules.specs.Codes.{refusal_number}
 use Rattle.rules.specs.Calls.{Call, entry, cancel, quote, tick}
 use Rattle.rules.specs.Market.{Book as RuleBook}
 use Rattle.book_register.specs.declared.load.LoadFault.{LoadFault}

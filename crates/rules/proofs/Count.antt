@@ -11,7 +11,6 @@ use Rattle.terms.specs.declared.time_in_force.TimeInForce.{TimeInForce}
 use Rattle.terms.specs.declared.time_in_force.TimeInForce.TheVariants.{ImmediateOrCancel, Rest}
 use Rattle.rules.specs.Calls.{swept_in, joined, rested, Call, done_at, call, entry, new_order, cancel, quote, follows_quote, tick, time_of}
 use Rattle.rules.specs.Clock.{end_period, protected_on, settle, at_time}
-use Rattle.rules.specs.Examples.{id}
 use Rattle.rules.specs.Market.{Market, Order, side_of, lower, with_orders, resting, reach_in, those, with_end, Book, with_quote}
 use Rattle.rules.specs.Priority.{line_price, partner_for}
 use Rattle.rules.specs.Runs.{run, opened}
