@@ -55,15 +55,20 @@ left_of (Some order) = order.left
 -- it is IOC
 abbrev pub rested : TimeInForce → ℕ → ℕ → ℕ → Market → Outcome
 rested Rest time number shares market =
-    record {
-      answer = entered number (shares - left_of (resting number market.orders)) 0;
-      book = record { market = market; clock = time; entries = number };
-    }
+    let left = left_of (resting number market.orders) in
+    record { answer = entered number (shares - left) 0; book = record { market = market; clock = time; entries = number } }
 rested ImmediateOrCancel time number shares market =
+    let left = left_of (resting number market.orders) in
     record {
-      answer = entered number (shares - left_of (resting number market.orders)) (left_of (resting number market.orders));
+      answer = entered number (shares - left) left;
       book = record { market = with_orders (without number market.orders) market; clock = time; entries = number };
     }
+
+-- the entry has the next number, and its order is swept in
+abbrev pub accepted : ℕ → List ℕ → OrderTerms → Book → Outcome
+accepted time identifier terms book =
+    let number = book.entries + 1 in
+    rested terms.time_in_force time number terms.shares (swept_in time (new_order identifier terms number) book.market)
 
 -- in a full book only an IOC order may be entered, since it never rests
 abbrev pub no_place : OrderTerms → Market → Bool
@@ -76,9 +81,7 @@ enter_at time identifier terms book =
       | None ↦
           if no_place terms book.market then refuse BookFull book
           else if nat_le most_entries book.entries then refuse EntriesSpent book
-          else
-          rested terms.time_in_force time (book.entries + 1) terms.shares
-          (swept_in time (new_order identifier terms (book.entries + 1)) book.market)
+          else accepted time identifier terms book
     ]
 
 -- Cancel
