@@ -14,7 +14,7 @@ use Rattle.rules.specs.Market.{Order, Market, Book}
 use Rattle.rules.specs.Answers.{entered}
 use Rattle.rules.specs.Calls.{Outcome, entry, new_order, swept_in, rested, done_at}
 use Rattle.rules.proofs.Numbers.{numbers_ascend, orders_within_places}
-use Rattle.market.specs.declared.row.Row.{Row}
+use Rattle.market.specs.declared.table.Row.{Row}
 use Rattle.market.specs.Rows.{row_order}
 use Rattle.market.specs.Changes.{newest_number}
 use Rattle.market.specs.Markets.{capacity_of}

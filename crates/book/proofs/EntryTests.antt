@@ -10,7 +10,7 @@ use Rattle.rules.specs.Limits.{most_entries}
 use Rattle.rules.specs.Market.{Order, Book}
 use Rattle.rules.specs.Calls.{Outcome, refuse, entry, named, no_place, new_order, swept_in, rested, done_at}
 use Rattle.rules.proofs.Cases.{option_cases}
-use Rattle.market.specs.declared.row.Row.{Row}
+use Rattle.market.specs.declared.table.Row.{Row}
 use Rattle.market.specs.Rows.{row_order, rising, orders_in}
 use Rattle.market.specs.Changes.{AllRest, newest_number}
 use Rattle.book.specs.Tied.{number_named}

@@ -14,7 +14,7 @@ use Rattle.directory.specs.Pairs.{Added, RefusedPut, most_pairs, put_refusal}
 use Rattle.directory.proofs.Distinct.{bytes_apart}
 use Rattle.std.specs.Str.{bytes_eq}
 use Rattle.rules.proofs.Cases.{if_true, none_some}
-use Rattle.market.specs.declared.row.Row.{Row}
+use Rattle.market.specs.declared.table.Row.{Row}
 use Rattle.market.specs.Changes.{with_left, SameButShares, newest_number}
 use Rattle.market.proofs.Dropped.{newest_of_push}
 use Rattle.book.specs.Tied.{row_name, number_named, Apart, Tied}

@@ -7,7 +7,7 @@ use Rattle.std.proofs.lemmas.Bool.{cases_Bool, and_parts, ltb-true, ne_eqb, eq-e
 use Rattle.rules.specs.Market.{Order, resting}
 use Rattle.rules.specs.Calls.{named}
 use Rattle.rules.proofs.Cases.{if_true, if_false}
-use Rattle.market.specs.declared.row.Row.{Row}
+use Rattle.market.specs.declared.table.Row.{Row}
 use Rattle.market.specs.Rows.{row_order, rising, orders_in}
 use Rattle.market.specs.Changes.{AllRest}
 use Rattle.book.specs.Tied.{Apart, Tied, row_name, number_named}

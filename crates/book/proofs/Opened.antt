@@ -8,7 +8,7 @@ use Rattle.directory.specs.Pairs.{Emptied}
 use Rattle.rules.specs.Market.{Book}
 use Rattle.rules.specs.Runs.{opened, run}
 use Rattle.market.specs.declared.table.Table.{Table}
-use Rattle.market.specs.declared.row.Row.{Row}
+use Rattle.market.specs.declared.table.Row.{Row}
 use Rattle.market.specs.Changes.{AllRest}
 use Rattle.market.specs.Seen.{market_with, seen}
 use Rattle.market.proofs.Retired.{rests_none}

@@ -9,7 +9,7 @@ use Rattle.directory.specs.Pairs.{Removed, Kept}
 use Rattle.directory.proofs.Distinct.{bytes_apart}
 use Rattle.std.specs.Str.{bytes_eq}
 use Rattle.rules.proofs.Cases.{if_true, if_false}
-use Rattle.market.specs.declared.row.Row.{Row}
+use Rattle.market.specs.declared.table.Row.{Row}
 use Rattle.book.specs.Tied.{row_name, number_named, Apart, Tied}
 
 pub clash : {n : ℕ} (o : Option ℕ) → o ≡ Some n → o ≡ None → ⊥

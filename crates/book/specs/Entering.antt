@@ -10,7 +10,7 @@ use Rattle.rules.specs.Limits.{most_entries, last_moment}
 use Rattle.rules.specs.Market.{Book}
 use Rattle.rules.specs.Answers.{entered}
 use Rattle.rules.specs.Calls.{Outcome, named, no_place, swept_in}
-use Rattle.market.specs.declared.row.Row.{Row}
+use Rattle.market.specs.declared.table.Row.{Row}
 use Rattle.market.specs.Rows.{row_order}
 use Rattle.market.specs.Changes.{AllRest}
 use Rattle.market.specs.Joining.{CanJoin}

@@ -1,7 +1,7 @@
 -- What ties a directory to the rows: it has the pairs of identifier and entry number of the rows, and no others.
 use Rattle.std.specs.Prelude.{◌≡◌, ℕ, List, [], ◌∷◌, length, Some, None, Option, if◌then◌else◌}
 use Rattle.std.specs.Str.{bytes_eq}
-use Rattle.market.specs.declared.row.Row.{Row}
+use Rattle.market.specs.declared.table.Row.{Row}
 use Rattle.market.specs.Rows.{identifier_bytes}
 
 abbrev pub row_name : Row → List ℕ

@@ -4,7 +4,7 @@ use Rattle.std.proofs.Common.{◌≡◌, ℕ, ◌+◌, ◌<◌, List, [], ◌∷
 use Rattle.std.specs.List.{AllByRecursion as Every}
 use Rattle.std.proofs.lemmas.List.{at_drop_more}
 use Rattle.register.specs.Layout.{Listed}
-use Rattle.market.specs.declared.row.Row.{Row}
+use Rattle.market.specs.declared.table.Row.{Row}
 use Rattle.market.specs.Rows.{row_order}
 use Rattle.rules.specs.Market.{Book}
 use Rattle.register.specs.declared.writer.NoRoom.{NoRoom}

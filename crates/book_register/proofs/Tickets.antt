@@ -4,7 +4,7 @@ use Rattle.std.specs.List.{AllByRecursion as Every}
 use Rattle.rules.specs.Limits.{fewest_left}
 use Rattle.rules.specs.Market.{Order, Book as RuleBook}
 use Rattle.rules.proofs.Numbers.{shares_remain}
-use Rattle.market.specs.declared.row.Row.{Row}
+use Rattle.market.specs.declared.table.Row.{Row}
 use Rattle.market.specs.Rows.{row_order}
 use Rattle.book.specs.Running.{Running, Reached}
 use Rattle.register.proofs.Tickets.{ticket_back}

@@ -15,7 +15,7 @@ use Rattle.terms.specs.declared.side.Side.{Side}
 use Rattle.rules.specs.Market.{Market}
 use Rattle.rules.specs.Priority.{is_partner, ahead, better_of}
 use Rattle.rules.proofs.Cases.{if_true, if_false}
-use Rattle.market.specs.declared.row.Row.{Row}
+use Rattle.market.specs.declared.table.Row.{Row}
 use Rattle.market.specs.Rows.{row_order, rests, orders_in}
 use Rattle.market.proofs.Found.{orders_in_spent}
 use Rattle.market.proofs.Joined.{orders_in_none, orders_in_one, orders_in_append}

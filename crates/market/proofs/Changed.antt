@@ -7,7 +7,7 @@ use Rattle.std.proofs.lemmas.List.{map-set, get_or-map, set-get_or, get_or-set_o
 use Rattle.std.proofs.lemmas.Bool.{ltb-true, lt-ltb, le-ltb, leb-true, leb-false, eqb-false, eq-eqb, ne_eqb, and_parts, cases_Bool}
 use Rattle.rules.specs.Market.{Order, resting, without, less, lowered, lower}
 use Rattle.rules.proofs.Cases.{if_both, if_true, if_false, none_some}
-use Rattle.market.specs.declared.row.Row.{Row}
+use Rattle.market.specs.declared.table.Row.{Row}
 use Rattle.market.specs.Rows.{row_order, rising, rests, orders_in}
 use Rattle.market.specs.Changes.{RestsAt, OnlySharesOf, with_left}
 use Rattle.market.proofs.Found.{orders_in_resting, orders_in_spent}

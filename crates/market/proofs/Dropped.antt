@@ -5,7 +5,7 @@ use Rattle.std.proofs.lemmas.Bool.{ltb-true, eq-eqb, and_parts, and_from, cases_
 use Rattle.std.specs.Option.{option_to_list}
 use Rattle.rules.specs.Market.{Order, without}
 use Rattle.rules.proofs.Cases.{if_true}
-use Rattle.market.specs.declared.row.Row.{Row}
+use Rattle.market.specs.declared.table.Row.{Row}
 use Rattle.market.specs.Rows.{row_order, rising, rests, orders_in}
 use Rattle.market.specs.Changes.{newest_number}
 use Rattle.market.proofs.Found.{orders_in_resting, orders_in_spent}

@@ -13,7 +13,7 @@ use Rattle.rules.specs.Sweep.{lines, trade, sweep, sweep_each}
 use Rattle.rules.proofs.Cases.{if_both, if_true, if_false}
 use Rattle.rules.proofs.Lasting.{each_keep}
 use Rattle.rules.proofs.Numbers.{rows_sweep}
-use Rattle.market.specs.declared.row.Row.{Row}
+use Rattle.market.specs.declared.table.Row.{Row}
 use Rattle.market.specs.Rows.{row_order, rising, rests, orders_in}
 use Rattle.market.specs.Changes.{with_left, SameButShares}
 use Rattle.market.proofs.Found.{orders_in_resting, orders_in_spent, passed_over}

@@ -7,7 +7,7 @@ use Rattle.std.proofs.lemmas.Bool.{cases_Bool, ltb-false}
 use Rattle.std.proofs.Math.Bool.{and-true, and_assoc}
 use Rattle.std.specs.List.{filter, list_all, sum_by}
 use Rattle.rules.specs.Market.{Order}
-use Rattle.market.specs.declared.row.Row.{Row}
+use Rattle.market.specs.declared.table.Row.{Row}
 use Rattle.market.specs.Rows.{most_rows, row_order, rests, orders_in}
 use Rattle.market.proofs.Found.{orders_of, orders_in_resting, orders_in_spent}
 use Rattle.market.proofs.Joined.{orders_in_none}

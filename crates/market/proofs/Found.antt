@@ -6,7 +6,7 @@ use Rattle.std.proofs.lemmas.List.{length-map}
 use Rattle.std.proofs.lemmas.Bool.{ltb-true, ltb-false, lt-ltb, eq-eqb, eqb-true, ne_eqb, and_parts, and_from, true≢false}
 use Rattle.rules.specs.Market.{resting}
 use Rattle.rules.proofs.Cases.{if_both, if_true, if_false}
-use Rattle.market.specs.declared.row.Row.{Row}
+use Rattle.market.specs.declared.table.Row.{Row}
 use Rattle.market.specs.Rows.{row_order, rests, orders_in}
 use Rattle.market.specs.Changes.{RestsAt}
 

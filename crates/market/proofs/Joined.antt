@@ -2,7 +2,7 @@
 -- induction over the first part. Cite: orders_in_append, orders_in_one, rising_push.
 use Rattle.std.proofs.Common.{◌≡◌, ℕ, ◌<◌, true, ltb, List, [], ◌∷◌, ◌++◌, sym, refl, ap, ◌∙◌, inl, inr}
 use Rattle.std.proofs.lemmas.Bool.{lt-ltb, and_parts, and_from, cases_Bool}
-use Rattle.market.specs.declared.row.Row.{Row}
+use Rattle.market.specs.declared.table.Row.{Row}
 use Rattle.market.specs.Rows.{row_order, rising, rests, orders_in}
 use Rattle.market.specs.Changes.{newest_number}
 use Rattle.market.proofs.Found.{orders_in_resting, orders_in_spent}

@@ -12,7 +12,7 @@ use Rattle.rules.specs.Market.{Market, Order, ranked_in}
 use Rattle.rules.specs.Priority.{class_of}
 use Rattle.rules.specs.Questions.{ranks_before}
 use Rattle.rules.proofs.ByKeys.{first_not_itself, first_not_back, first_through}
-use Rattle.market.specs.declared.row.Row.{Row}
+use Rattle.market.specs.declared.table.Row.{Row}
 use Rattle.market.specs.Rows.{row_order, rests, orders_in}
 use Rattle.market.proofs.Found.{orders_in_spent}
 use Rattle.market.proofs.Best.{better, best_met}

@@ -14,7 +14,7 @@ use Rattle.rules.proofs.Cases.{if_both, some_same, none_some, option_cases}
 use Rattle.rules.proofs.Members.{In, all_in, in_all, in_has, has_in}
 use Rattle.rules.proofs.Ranking.{ranking_ranks}
 use Rattle.rules.proofs.Sides.{same_side_is, same_side_itself}
-use Rattle.market.specs.declared.row.Row.{Row}
+use Rattle.market.specs.declared.table.Row.{Row}
 use Rattle.market.specs.Rows.{row_order, rests, rising, orders_in}
 use Rattle.market.specs.Ranks.{comes_after, NextRanked}
 use Rattle.market.proofs.Next.{itself, not_back}

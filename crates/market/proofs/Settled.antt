@@ -8,7 +8,7 @@ use Rattle.rules.specs.Clock.{protected_on, end_period, end_periods, settle}
 use Rattle.rules.specs.Sweep.{sweep_each}
 use Rattle.rules.proofs.Lasting.{ends_keep}
 use Rattle.rules.specs.Calls.{requoted}
-use Rattle.market.specs.declared.sweep.Round.TheVariants.{PeriodEnded, QuoteChanged}
+use Rattle.market.specs.declared.market.Round.TheVariants.{PeriodEnded, QuoteChanged}
 use Rattle.market.specs.Rounds.{woken}
 use Rattle.market.proofs.EachSwept.{each_longer}
 

@@ -6,7 +6,7 @@ use Rattle.terms.specs.Sides.{same_side}
 use Rattle.terms.specs.declared.side.Side.{Side}
 use Rattle.rules.specs.Market.{Order, side_of}
 use Rattle.rules.specs.Questions.{count_on, shares_on}
-use Rattle.market.specs.declared.row.Row.{Row}
+use Rattle.market.specs.declared.table.Row.{Row}
 use Rattle.market.specs.Rows.{row_order, rests, orders_in}
 use Rattle.market.proofs.Folds.{sum_resting, none_of}
 

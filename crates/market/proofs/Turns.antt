@@ -8,11 +8,11 @@ use Rattle.terms.specs.Sides.{same_side}
 use Rattle.rules.specs.Market.{Order, Market, resting, those}
 use Rattle.rules.specs.Calls.{pegged}
 use Rattle.rules.specs.Sweep.{sweep, sweep_each}
-use Rattle.market.specs.declared.row.Row.{Row}
+use Rattle.market.specs.declared.table.Row.{Row}
 use Rattle.market.specs.Rows.{row_order, rising, orders_in}
 use Rattle.market.specs.Changes.{SameButShares}
-use Rattle.market.specs.declared.sweep.Round.{Round}
-use Rattle.market.specs.declared.sweep.Round.TheVariants.{PeriodEnded, QuoteChanged}
+use Rattle.market.specs.declared.market.Round.{Round}
+use Rattle.market.specs.declared.market.Round.TheVariants.{PeriodEnded, QuoteChanged}
 use Rattle.market.specs.Rounds.{woken, swept_if}
 use Rattle.market.proofs.EachSwept.{round_passes, round_sweeps, absent_after, each_longer}
 

@@ -2,7 +2,7 @@
 use Rattle.std.specs.Prelude.{◌≡◌, ℕ, ◌<◌, true, false, List, [], ◌∷◌, ◌++◌, map, length, get_or, take, Some, ◌≢◌, slice_index_or}
 use Rattle.rules.specs.Market.{resting}
 use Rattle.terms.specs.declared.identifier.Identifier.{Identifier}
-use Rattle.market.specs.declared.row.Row.{Row}
+use Rattle.market.specs.declared.table.Row.{Row}
 use Rattle.market.specs.Rows.{row_order, rests, orders_in}
 
 -- the order with that entry number rests, and its row stands at the index

@@ -1,6 +1,6 @@
 -- When a row can join the table.
 use Rattle.std.specs.Prelude.{◌<◌, List, length}
-use Rattle.market.specs.declared.row.Row.{Row}
+use Rattle.market.specs.declared.table.Row.{Row}
 use Rattle.market.specs.Changes.{newest_number}
 use Rattle.market.specs.Rows.{most_rows}
 

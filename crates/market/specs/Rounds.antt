@@ -2,12 +2,12 @@
 use Rattle.std.specs.Prelude.{ℕ, Bool, List, Some, None, if◌then◌else◌, slice_get}
 use Rattle.rules.specs.Market.{Order, Market}
 use Rattle.rules.specs.Sweep.{sweep}
-use Rattle.market.specs.declared.row.Row.{Row}
+use Rattle.market.specs.declared.table.Row.{Row}
 use Rattle.market.specs.Rows.{row_order}
 use Rattle.rules.specs.Clock.{protected_on}
 use Rattle.rules.specs.Calls.{follows_quote}
-use Rattle.market.specs.declared.sweep.Round.{Round}
-use Rattle.market.specs.declared.sweep.Round.TheVariants.{PeriodEnded, QuoteChanged}
+use Rattle.market.specs.declared.market.Round.{Round}
+use Rattle.market.specs.declared.market.Round.TheVariants.{PeriodEnded, QuoteChanged}
 
 abbrev pub woken : Round → Order → Bool
 woken (PeriodEnded side) order = protected_on side order

@@ -4,7 +4,7 @@ use Rattle.terms.specs.Made.{terms_of}
 use Rattle.rules.specs.Limits.{most_resting}
 use Rattle.rules.specs.Market.{Order}
 pub use Rattle.terms.specs.Naming.{identifier_bytes}
-use Rattle.market.specs.declared.row.Row.{Row}
+use Rattle.market.specs.declared.table.Row.{Row}
 
 -- so many rows stand at most: those that rest, and one that is being entered
 abbrev pub most_rows : ℕ

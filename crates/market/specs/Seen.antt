@@ -3,7 +3,7 @@ use Rattle.std.specs.Prelude.{◌≡◌, List, [], vec_items}
 use Rattle.terms.specs.declared.quote.Quote.{Quote}
 use Rattle.tape.specs.declared.line.Line.{Line}
 use Rattle.rules.specs.Market.{Order, Market}
-use Rattle.market.specs.declared.row.Row.{Row}
+use Rattle.market.specs.declared.table.Row.{Row}
 use Rattle.market.specs.declared.table.Table.{Table}
 use Rattle.market.specs.Rows.{orders_in}
 

@@ -6,7 +6,7 @@ ghost use Rattle.market.specs.Rows.{row_order};
 ghost use Rattle.rules.specs.Questions.{latest_mark as latest_mark_of, why as why_of};
 
 use crate::market::Market;
-use crate::row::Row;
+use crate::table::Row;
 use crate::trade::mark_of;
 use tape::Tape;
 use terms::Side;

@@ -4,8 +4,7 @@ ghost use Rattle.market.specs.Seen.{market_with, orders_of};
 ghost use Rattle.rules.specs.Questions.{closing, count_on, shares_on};
 ghost use Rattle.tape.specs.declared.line.Line.{Line};
 
-use crate::row::{rests_on, shares_on};
-use crate::table::Table;
+use crate::table::{Table, rests_on, shares_on};
 use terms::{PerSide, Side};
 
 // The orders that rest on one side, and their shares.

@@ -1,15 +1,11 @@
 // The order table with a tape: who trades next, sweeps, protection periods, and what is told of them.
 #![tactic(auto)]
 
-mod clock;
-mod display;
 mod explanation;
 mod figures;
 mod market;
 mod priority;
 mod ranking;
-mod row;
-mod sweep;
 mod table;
 mod trade;
 
@@ -17,5 +13,4 @@ pub use explanation::{Why, explain};
 pub use figures::{Figures, Tally, figures_of};
 pub use market::Market;
 pub use ranking::{Standing, ask};
-pub use row::Row;
-pub use table::Table;
+pub use table::{Row, Table};

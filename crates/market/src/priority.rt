@@ -6,8 +6,7 @@ ghost use Rattle.rules.specs.Codes.{class_number};
 ghost use Rattle.rules.specs.Priority.{ahead as ahead_of, is_partner as is_partner_of, line_class as line_class_of, line_price as line_price_of, next_partner as next_partner_of, partner_for as partner_for_of};
 ghost use Rattle.terms.specs.Sides.{meets as meets_of, opposite as opposite_of, outranks as outranks_of};
 
-use crate::row::Row;
-use crate::table::Table;
+use crate::table::{Row, Table};
 use rules::{Class, Keys, class_of};
 use terms::Side;
 

@@ -10,8 +10,7 @@ ghost use Rattle.rules.specs.Codes.{class_number};
 ghost use Rattle.rules.specs.Questions.{Answered, at_place, ranking_of, ranks_before as ranks_before_of};
 ghost use Rattle.tape.specs.declared.line.Line.{Line};
 
-use crate::row::{Row, rests_on};
-use crate::table::Table;
+use crate::table::{Row, Table, rests_on};
 use rules::{Keys, class_of};
 use terms::Side;
 

@@ -10,7 +10,7 @@ use Rattle.rules.specs.Calls.{entry, swept_in, rested}
 use Rattle.rules.proofs.Lasting.{call_unlawful}
 use Rattle.terms.specs.Naming.{identifier_bytes}
 use Rattle.rules.specs.Answers.{entered}
-use Rattle.market.specs.declared.row.Row.{Row}
+use Rattle.market.specs.declared.table.Row.{Row}
 use Rattle.market.specs.Rows.{row_order}
 use Rattle.market.specs.Markets.{market_of}
 use Rattle.book.specs.Tied.{row_name}

@@ -3,7 +3,7 @@ use Rattle.std.proofs.Common.{◌-◌, List, vec_items, sym, ap, ◌∙◌, subs
 use Rattle.rules.specs.Market.{Market, resting, without, with_orders}
 use Rattle.rules.specs.Answers.{entered}
 use Rattle.rules.specs.Calls.{left_of}
-use Rattle.market.specs.declared.row.Row.{Row}
+use Rattle.market.specs.declared.table.Row.{Row}
 use Rattle.market.specs.Changes.{SameButShares}
 use Rattle.market.specs.Markets.{market_of}
 use Rattle.book.proofs.Kept.{tied_kept}

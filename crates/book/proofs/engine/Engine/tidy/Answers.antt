@@ -1,5 +1,5 @@
 use Rattle.std.proofs.Common.{List, sym, ap, ◌∙◌, subst}
-use Rattle.market.specs.declared.row.Row.{Row}
+use Rattle.market.specs.declared.table.Row.{Row}
 use Rattle.market.specs.Rows.{identifier_bytes}
 use Rattle.book.specs.Tied.{Tied}
 use Rattle.book.proofs.Ties.{row_left}

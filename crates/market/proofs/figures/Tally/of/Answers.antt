@@ -1,7 +1,7 @@
 use Rattle.std.proofs.Common.{ℕ, ◌^◌, ◌≤◌, min, length, vec_items, ◌∙◌, arith, rules, tests}
 use Rattle.std.proofs.lemmas.Iterator.{YieldsList-from_slice, YieldsList-from_map}
 use Rattle.std.proofs.lemmas.Iterator.Consumers.{YieldsList-from_filter, count_from_yields_List, sum_by_from_yields_List, fits_by_from_yields_list}
-use Rattle.market.specs.declared.row.Row.{Row}
+use Rattle.market.specs.declared.table.Row.{Row}
 use Rattle.market.specs.Rows.{most_rows}
 use Rattle.market.proofs.Folds.{few_shares}
 use Rattle.market.proofs.Tallies.{rests_here, shares_here, counted, summed}

@@ -7,5 +7,5 @@ use Rattle.market.proofs.market.Market.settle.Given as goal
 -- what is left of the settling gives the whole
 abbrev pub invariant-loop : goal.invariant-loop
 invariant-loop g l =
-    let whole = end_periods l.turns l.time (market_of g.T.Tape l.initial.self) in
-    Underway g.T.Tape l.initial.self l.self (whole ≡ end_periods (l.turns - l.counter) l.time (market_of g.T.Tape l.self))
+    let whole = end_periods l.periods l.time (market_of g.T.Tape l.initial.self) in
+    Underway g.T.Tape l.initial.self l.self (whole ≡ end_periods (l.periods - l.counter) l.time (market_of g.T.Tape l.self))

@@ -3,7 +3,7 @@ use Rattle.std.proofs.lemmas.Iterator.{YieldsList-from_slice, YieldsList-from_ma
 use Rattle.std.proofs.lemmas.Iterator.Consumers.{sum_by_from_yields_List, fits_by_from_yields_list}
 use Rattle.rules.specs.Market.{ranked_in}
 use Rattle.rules.specs.Sweep.{displayed_shares, shows}
-use Rattle.market.specs.declared.row.Row.{Row}
+use Rattle.market.specs.declared.table.Row.{Row}
 use Rattle.market.specs.Displays.{shares_there}
 use Rattle.market.specs.Rows.{most_rows, row_order}
 use Rattle.market.specs.Seen.{seen}
