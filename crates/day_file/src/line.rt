@@ -1,6 +1,6 @@
 // The words of a line, and the numbers in them.
-ghost use Rattle.std.specs.Prelude.{◌-◌, ◌^◌, ◌≡◌};
-ghost use Rattle.day_file.specs.Numbers.{most, size_from, size_in, whole_in, within};
+ghost use Rattle.std.specs.Prelude.{◌≡◌};
+ghost use Rattle.day_file.specs.Numbers.{most, most_of, near, size_from, size_in, whole_in, within};
 
 #[derive(Drop)]
 pub(crate) struct Words<'a> {
@@ -77,18 +77,22 @@ pub(crate) fn as_u64(number: i128) -> u64
 }
 
 pub(crate) fn as_u32(number: i128) -> u32
-    ensures { result ≡ within (2 ^ 32 - 1) number }
+    ensures { result ≡ within (most_of 32) number }
 {
     u32::try_from(number).unwrap_or(u32::MAX)
 }
 
 pub(crate) fn as_u8(number: i128) -> u8
-    ensures { result ≡ within 255 number }
+    ensures { result ≡ within (most_of 8) number }
 {
     u8::try_from(number).unwrap_or(u8::MAX)
 }
 
 // An offset of more than 16 bits is out of range as well as one of 1,000.
-pub(crate) fn as_offset(number: i128) -> i32 {
-    number.clamp(-1000, 1000) as i32
+const FAR_OFFSET: i128 = 1000;
+
+pub(crate) fn as_offset(number: i128) -> i32
+    ensures { result ≡ near number }
+{
+    number.clamp(-FAR_OFFSET, FAR_OFFSET) as i32
 }
