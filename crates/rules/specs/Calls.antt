@@ -32,8 +32,9 @@ refuse why book = record { answer = refused why; book = book }
 
 -- the resting order that an identifier names
 unfoldable pub named : List ℕ → List Order → Option Order
-named id [] = None
-named id (o ∷ os) = if bytes_eq id o.identifier then Some o else named id os
+named identifier [] = None
+named identifier (order ∷ others) =
+    if bytes_eq identifier order.identifier then Some order else named identifier others
 
 -- Entry
 

@@ -15,4 +15,5 @@ abbrev pub highest : ℕ
 highest = 126
 
 abbrev pub lawful_identifier : List ℕ → Bool
-lawful_identifier id = in_range 1 (length id) longest && list_all (λ b. in_range lowest b highest) id
+lawful_identifier identifier =
+    in_range 1 (length identifier) longest && list_all (λ byte. in_range lowest byte highest) identifier

@@ -3,4 +3,4 @@ use Rattle.std.specs.Prelude.{ℕ, List, take}
 use Rattle.terms.specs.declared.identifier.Identifier.{Identifier}
 
 abbrev pub identifier_bytes : Identifier → List ℕ
-identifier_bytes i = take i.len i.bytes
+identifier_bytes identifier = take identifier.len identifier.bytes
