@@ -5,7 +5,7 @@ use Rattle.std.specs.Prelude.{slice_set}
 use Rattle.std.proofs.Math.ListN.{set}
 use Rattle.std.proofs.Math.Seq.{set-append_seam}
 use Rattle.std.proofs.lemmas.List.{length-append, length-take, length-take-le, take-append-drop, drop_more}
-use Rattle.roll.specs.declared.roll.Roll.{Roll}
+use Rattle.roll.specs.declared.Roll.{Roll}
 use Rattle.roll.specs.Rolls.{records, room_left, places, lender}
 use Rattle.book_register.specs.declared.load.Slip.{Slip}
 use Rattle.book_register.specs.Loaded.{written_from, SlipsAdded}

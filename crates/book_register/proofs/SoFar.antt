@@ -10,7 +10,7 @@ use Rattle.register.specs.declared.reader.Listed.{Listed as ListedOrder}
 use Rattle.register.specs.Layout.{Listed}
 use Rattle.register.specs.Parts.{listed_of}
 use Rattle.register.specs.Reading.{place_in, read_next}
-use Rattle.roll.specs.declared.roll.Roll.{Roll}
+use Rattle.roll.specs.declared.Roll.{Roll}
 use Rattle.roll.specs.Rolls.{room_left}
 use Rattle.rules.specs.Calls.{Call}
 use Rattle.rules.specs.Market.{Book as RuleBook}

@@ -1,7 +1,7 @@
 -- What a load promises: answer, slips and book are those of the definition, the book is the rule book's after the entries
 -- made, and the law of loads holds.
 use Rattle.std.specs.Prelude.{◌≡◌, ℕ, ◌+◌, List, ◌++◌, length, take, drop, Some, None, Ok, Err, Option, Result}
-use Rattle.roll.specs.declared.roll.Roll.{Roll}
+use Rattle.roll.specs.declared.Roll.{Roll}
 use Rattle.roll.specs.Rolls.{records, room_left, places, lender}
 use Rattle.register.specs.Layout.{Listed}
 use Rattle.rules.specs.Runs.{run}

@@ -2,7 +2,7 @@
 use Rattle.std.specs.Prelude.{ℕ, zero, suc, ◌-◌, List, length, take, None, Option}
 use Rattle.std.specs.List.{slice_get}
 use Rattle.std.specs.Borrow.{GName}
-use Rattle.roll.specs.declared.roll.Roll.{Roll}
+use Rattle.roll.specs.declared.Roll.{Roll}
 
 module _ {T : Type 0} where
   abbrev pub records : Roll T → List T

@@ -14,7 +14,7 @@ use Rattle.rules.specs.Market.{Order, Market, side_of, end_of, reach_in, resting
 use Rattle.rules.specs.Priority.{line_price, partner_for, next_partner}
 use Rattle.rules.specs.Runs.{opened}
 use Rattle.rules.specs.Sweep.{recorded, trade, traded, after_trade, depletes, line_of, side_mark, sweep, sweep_each}
-use Rattle.rules.specs.Trades.{Meeting, Step, joins, leaves, quotes, ends, trades, Leads, here, on, Told, TradesTold, LinesTellTrades}
+use Rattle.rules.specs.Trades.{Meeting, Step, joins, leaves, quotes, ends, trades, Leads, here, on, LineTellsTrade, TradesTold, LinesTellTrades}
 use Rattle.rules.proofs.Apart.{Agree, agree_calm, sweep_calm}
 use Rattle.rules.proofs.Calm.{Calm, calm_itself, calm_then, trade_calm}
 use Rattle.rules.proofs.Lasting.{lines_keep, ends_keep, Lasts, run_lasts}
@@ -47,7 +47,7 @@ end_tape Buy m = refl
 end_tape Sell m = refl
 
 module _ (start : Market) where
-  told_on : (m r : Market) → Step m r → (earlier : List Line) (line : Line) → Told start m earlier line → Told start r earlier line
+  told_on : (m r : Market) → Step m r → (earlier : List Line) (line : Line) → LineTellsTrade start m earlier line → LineTellsTrade start r earlier line
   told_on m r s earlier line h =
       record {
         market = h.market;
@@ -70,12 +70,12 @@ module _ (start : Market) where
   trades_on m r s earlier (l ∷ ls) h = (told_on m r s earlier l h.0, trades_on m r s (earlier ++ (l ∷ [])) ls h.1)
 
   -- one line more
-  trades_push : (m : Market) (earlier ls : List Line) (l : Line) → TradesTold start m earlier ls → Told start m (earlier ++ ls) l
+  trades_push : (m : Market) (earlier ls : List Line) (l : Line) → TradesTold start m earlier ls → LineTellsTrade start m (earlier ++ ls) l
       → TradesTold start m earlier (ls ++ (l ∷ []))
-  trades_push m earlier [] l h told = (subst (λ xs. Told start m xs l) (append-nil earlier) told, tt)
+  trades_push m earlier [] l h told = (subst (λ xs. LineTellsTrade start m xs l) (append-nil earlier) told, tt)
   trades_push m earlier (x ∷ ls) l h told = (
     h.0,
-    trades_push m (earlier ++ (x ∷ [])) ls l h.1 (subst (λ xs. Told start m xs l) (sym (append_assoc earlier (x ∷ []) ls)) told),
+    trades_push m (earlier ++ (x ∷ [])) ls l h.1 (subst (λ xs. LineTellsTrade start m xs l) (sym (append_assoc earlier (x ∷ []) ls)) told),
   )
 
   -- the market comes of the opening, and every line of its tape is told
@@ -108,7 +108,7 @@ module _ (start : Market) where
       line =
           line_of t (line_price m (reach_in m o) x) (cond (depletes m x (lower x.number (traded o x) m.orders)) (side_mark (side_of x)) Nothing) o x
 
-      told : Told start r m.tape line
+      told : LineTellsTrade start r m.tape line
       told =
           record {
             market = m;

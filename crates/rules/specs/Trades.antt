@@ -32,7 +32,7 @@ pub data Leads : Market → Market → Type 0 where
 
 -- between the two markets, when only the earlier lines stood on the tape, taker and partner met, and the line tells their trade:
 -- the lesser of the shares left of the two, at the line price, marked exactly if it depletes the partner's side
-pub record Told (first last : Market) (earlier : List Line) (line : Line) : Type 0 where
+pub record LineTellsTrade (first last : Market) (earlier : List Line) (line : Line) : Type 0 where
   pub market : Market
   pub taker : Order
   pub partner : Order
@@ -49,7 +49,7 @@ pub record Told (first last : Market) (earlier : List Line) (line : Line) : Type
 -- so does each line that stands on the tape after the earlier ones
 abbrev pub TradesTold : Market → Market → List Line → List Line → Type 0
 TradesTold first last earlier [] = Unit {0}
-TradesTold first last earlier (line ∷ later) = Told first last earlier line × TradesTold first last (earlier ++ (line ∷ [])) later
+TradesTold first last earlier (line ∷ later) = LineTellsTrade first last earlier line × TradesTold first last (earlier ++ (line ∷ [])) later
 
 -- after every run, each line of the tape tells a trade between its opening and its end
 abbrev pub LinesTellTrades : Type 0
