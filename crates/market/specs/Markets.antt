@@ -1,4 +1,4 @@
--- The order table with its tape, as the rule book's market. `make` has what is stated of every tape of its make.
+-- The order table with its tape, as the rule book's market. `make` tells the lines and the free lines of a tape of its make.
 use Rattle.std.specs.Prelude.{◌≡◌, ℕ, ◌+◌, ◌≤◌, length}
 use Rattle.tape.specs.declared.tape.Tape.{Ghosts as TapeOf}
 use Rattle.rules.specs.Limits.{last_moment}
