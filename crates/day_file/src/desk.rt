@@ -35,10 +35,13 @@ fn tell_end(ended: Result<Loaded, LoadFault>, out: &mut Output) -> Result<(), Al
 
 impl<D: Directory, T: Tape> Desk<D, T> {
     ghost use Rattle.book_register.specs.Written.{Written};
-    ghost use Rattle.day_file.specs.Desks.{book_of};
+    ghost use Rattle.day_file.specs.Desks.{after_load, book_of, running_of};
+    ghost use Rattle.std.specs.Prelude.{◌≡◌};
 
     // The trades that have come since they were last told.
-    pub(crate) fn tell_trades(&mut self, out: &mut Output) -> Result<(), AllocError> {
+    pub(crate) fn tell_trades(&mut self, out: &mut Output) -> Result<(), AllocError>
+        ensures { running_of self.new ≡ running_of self.old }
+    {
         for place in self.told.saturating_add(1)..=self.book.lines() {
             if let Some(line) = self.book.line(place) {
                 out.trade(line)?;
@@ -95,7 +98,9 @@ impl<D: Directory, T: Tape> Desk<D, T> {
     }
 
     // The slips, how the load ended, and the trades that it made.
-    pub fn load(&mut self, time: u64, register: &[u8], out: &mut Output) -> Result<(), AllocError> {
+    pub fn load(&mut self, time: u64, register: &[u8], out: &mut Output) -> Result<(), AllocError>
+        ensures { book_of self.new ≡ after_load SLIP_PLACES (running_of self.old) time register.now }
+    {
         let mut room = [Slip::default(); SLIP_PLACES];
         let mut slips = Roll::new(&mut room);
         let ended = load_register(&mut self.book, time, register, &mut slips);
@@ -114,12 +119,18 @@ impl<D: Directory, T: Tape> Desk<D, T> {
 }
 
 impl<D: Directory + Drop, T: Tape + Drop> Desk<D, T> {
+    ghost use Rattle.std.specs.Prelude.{IfOk, ◌≡◌};
+    ghost use Rattle.book.specs.Running.{new_on};
+    ghost use Rattle.day_file.specs.Desks.{running_of};
+
     pub fn open(
         heap: Global,
         quote: Quote,
         directory: D,
         tape: T,
-    ) -> Result<Desk<D, T>, OpenRefusal> {
+    ) -> Result<Desk<D, T>, OpenRefusal>
+        ensures { IfOk result (λ desk. running_of desk ≡ new_on (T.Tape.free tape) quote.bid quote.offer) }
+    {
         Book::open(heap, quote, directory, tape)
             .map(|book| Desk { book, told: 0 })
             .map_err(|not_opened| not_opened.why)

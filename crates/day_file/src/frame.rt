@@ -16,8 +16,14 @@ pub struct Frame {
 }
 
 impl Frame {
+    ghost use Rattle.std.specs.Prelude.{min, ◌+◌, ◌≡◌};
+    ghost use Rattle.day_file.specs.Frames.{lines_read};
+    ghost use Rattle.day_file.specs.Numbers.{most};
+
     // The number of the line that was read last; the first is 1.
-    pub fn line(&self) -> u64 {
+    pub fn line(&self) -> u64
+        ensures { result ≡ lines_read self.now }
+    {
         self.lines
     }
 
@@ -27,13 +33,17 @@ impl Frame {
     }
 
     // The command of the next line, where it has one.
-    fn next<'a>(&mut self, line: &'a [u8]) -> Result<Option<Command<'a>>, BadLine> {
+    fn next<'a>(&mut self, line: &'a [u8]) -> Result<Option<Command<'a>>, BadLine>
+        ensures { lines_read self.new ≡ min (lines_read self.old + 1) most }
+    {
         self.lines = self.lines.saturating_add(1);
         read_command(line).map_err(|expected| self.bad(expected))
     }
 
     // The next line while no book is open: where it has a command, it must open the book.
-    pub fn opening(&mut self, line: &[u8]) -> Result<Option<Opening>, BadLine> {
+    pub fn opening(&mut self, line: &[u8]) -> Result<Option<Opening>, BadLine>
+        ensures { lines_read self.new ≡ min (lines_read self.old + 1) most }
+    {
         match self.next(line)? {
             None => Ok(None),
             Some(Command::Book { bid, offer, lines }) => Ok(Some(Opening {
@@ -45,7 +55,9 @@ impl Frame {
     }
 
     // The next line while the book is open: it opens none, and the day ends at `close`.
-    pub fn command<'a>(&mut self, line: &'a [u8]) -> Result<Option<Command<'a>>, BadLine> {
+    pub fn command<'a>(&mut self, line: &'a [u8]) -> Result<Option<Command<'a>>, BadLine>
+        ensures { lines_read self.new ≡ min (lines_read self.old + 1) most }
+    {
         match self.next(line)? {
             Some(Command::Book { .. }) => Err(self.bad(Expected::Book)),
             command => Ok(command),

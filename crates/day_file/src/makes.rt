@@ -1,4 +1,6 @@
 // The makes of directory and tape that a book may stand on; the answers are the same on all.
+ghost use Rattle.std.specs.Prelude.{IfOk, vec_len, ◌*◌, ◌≡◌};
+
 use crate::desk::Desk;
 use directory::{Directory, HashedDirectory, RowDirectory};
 use std::alloc::{AllocError, Global};
@@ -135,12 +137,16 @@ fn open<D: Directory + Drop, T: Tape + Drop>(
 }
 
 // Room for so many lines of a tape of records.
-pub fn record_room(heap: Global, lines: usize) -> Result<Vec<Line>, NoMemory> {
+pub fn record_room(heap: Global, lines: usize) -> Result<Vec<Line>, NoMemory>
+    ensures { IfOk result (λ room. vec_len room ≡ lines) }
+{
     Ok(vec![in heap; Line::default(); lines]?)
 }
 
 // Room for so many lines of a tape of bytes.
-pub fn byte_room(heap: Global, lines: usize) -> Result<Vec<u8>, NoMemory> {
+pub fn byte_room(heap: Global, lines: usize) -> Result<Vec<u8>, NoMemory>
+    ensures { IfOk result (λ room. vec_len room ≡ lines * LINE_BYTES) }
+{
     let size = lines.checked_mul(LINE_BYTES).ok_or(NoMemory::Tape)?;
     Ok(vec![in heap; 0u8; size]?)
 }

@@ -25,41 +25,60 @@ pub struct Output {
 }
 
 impl Output {
-    pub fn new(heap: Global) -> Output {
+    ghost use Rattle.std.specs.Prelude.{IsTrue, OnOk, [], length, ◌++◌, ◌↔◌};
+    ghost use Rattle.day_file.specs.Outputs.{line_text, number_text, numbers_text, text_of};
+
+    pub fn new(heap: Global) -> Output
+        ensures { text_of result ≡ [] }
+    {
         Output {
             bytes: Vec::new(heap),
         }
     }
 
-    pub fn as_bytes(&self) -> &[u8] {
+    pub fn as_bytes(&self) -> &[u8]
+        ensures { result.now ≡ text_of self.now }
+    {
         self.bytes.as_slice()
     }
 
-    pub fn len(&self) -> usize {
+    pub fn len(&self) -> usize
+        ensures { result ≡ length (text_of self.now) }
+    {
         self.bytes.len()
     }
 
-    pub fn is_empty(&self) -> bool {
+    pub fn is_empty(&self) -> bool
+        ensures { IsTrue result ↔ (text_of self.now ≡ []) }
+    {
         self.bytes.is_empty()
     }
 
-    pub fn clear(&mut self) {
+    pub fn clear(&mut self)
+        ensures { text_of self.new ≡ [] }
+    {
         self.bytes.clear();
     }
 
-    pub fn append(&mut self, other: &Output) -> Result<(), AllocError> {
+    pub fn append(&mut self, other: &Output) -> Result<(), AllocError>
+        ensures { OnOk result (text_of self.new ≡ text_of self.old ++ text_of other.now) }
+    {
         self.bytes.extend_from_slice(other.as_bytes())
     }
 
     // A blank and a number in the decimal system.
-    fn number(&mut self, number: u64) -> Result<(), AllocError> {
+    fn number(&mut self, number: u64) -> Result<(), AllocError>
+        ensures { OnOk result (text_of self.new ≡ text_of self.old ++ number_text number) }
+    {
         let mut digits = Buffer::new();
         self.bytes.push(b' ')?;
         self.bytes
             .extend_from_slice(digits.format(number).as_bytes())
     }
 
-    fn numbers(&mut self, numbers: &[u64]) -> Result<(), AllocError> {
+    fn numbers(&mut self, numbers: &[u64]) -> Result<(), AllocError>
+        ensures { OnOk result (text_of self.new ≡ text_of self.old ++ numbers_text numbers.now) }
+    {
         for number in numbers {
             self.number(*number)?;
         }
@@ -67,7 +86,9 @@ impl Output {
     }
 
     // A line of a word and numbers.
-    pub fn line(&mut self, word: &str, numbers: &[u64]) -> Result<(), AllocError> {
+    pub fn line(&mut self, word: &str, numbers: &[u64]) -> Result<(), AllocError>
+        ensures { OnOk result (text_of self.new ≡ text_of self.old ++ line_text word.now numbers.now) }
+    {
         self.bytes.extend_from_slice(word.as_bytes())?;
         self.numbers(numbers)?;
         self.bytes.extend_from_slice(b"\n")
