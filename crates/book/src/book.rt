@@ -25,14 +25,14 @@ use std::marker::Model;
 use tape::{Line, Tape};
 use terms::{Quote, Ticket};
 
-// `open` makes it sound, and every call keeps it so.
+/// `open` makes it sound, and every call keeps it so.
 #[derive(Drop)]
 pub struct Book<D: Directory, T: Tape> {
     pub(crate) engine: Engine<D, T>,
 }
 
-// Why an order reaches as far as it does; both prices in half-cents: the one at which the order stands, and the one up to which it
-// trades.
+/// Why an order reaches as far as it does; both prices in half-cents: the one at which the order stands, and the one up to which it
+/// trades.
 #[derive(Clone, Copy, PartialEq, Eq, Debug, Drop)]
 pub struct Explanation {
     pub ranked: u32,
@@ -51,7 +51,7 @@ impl<D: Directory, T: Tape> Model for Book<D, T> {
 }
 
 impl<D: Directory, T: Tape> Book<D, T> {
-    // A book with nothing in it, on an emptied directory and an empty tape.
+    /// A book with nothing in it, on an emptied directory and an empty tape.
     pub fn open(
         heap: Global,
         quote: Quote,
@@ -65,8 +65,8 @@ impl<D: Directory, T: Tape> Book<D, T> {
         Ok(Prepared::new(heap, quote, directory, tape)?.open())
     }
 
-    // A ticket is moved in: it is spent, or handed back with the refusal, any but NoSuchOrder. Told are the entry number, how
-    // many shares traded, and how many lapsed.
+    /// A ticket is moved in: it is spent, or handed back with the refusal, any but NoSuchOrder. Told are the entry number, how
+    /// many shares traded, and how many lapsed.
     pub fn enter(
         &mut self,
         time: u64,
@@ -84,7 +84,7 @@ impl<D: Directory, T: Tape> Book<D, T> {
         entered.map_err(|why| Rejected { ticket, why })
     }
 
-    // The shares that were left of the order that the identifier names. Refused as Identifier, Time, TapeShort or NoSuchOrder.
+    /// The shares that were left of the order that the identifier names. Refused as Identifier, Time, TapeShort or NoSuchOrder.
     pub fn cancel(&mut self, time: u64, id: &[u8]) -> Result<u32, Refusal>
         ensures answer { cancel_answer result ≡ answer_to self.old (cancel_of time id.now) }
         ensures told { cancel_numbers result ≡ told_of self.old (cancel_of time id.now) }
@@ -94,7 +94,7 @@ impl<D: Directory, T: Tape> Book<D, T> {
         self.engine.cancel(time, id)
     }
 
-    // The quote is replaced, and the orders that follow it are swept. Refused as Time or TapeShort.
+    /// The quote is replaced, and the orders that follow it are swept. Refused as Time or TapeShort.
     pub fn quote(&mut self, time: u64, quote: Quote) -> Result<(), Refusal>
         ensures answer { quote_answer result ≡ answer_to self.old (quote_of time quote.bid quote.offer) }
         ensures told { plain_numbers result ≡ told_of self.old (quote_of time quote.bid quote.offer) }
@@ -104,7 +104,7 @@ impl<D: Directory, T: Tape> Book<D, T> {
         self.engine.quote(time, quote)
     }
 
-    // Refused as Time or TapeShort.
+    /// Refused as Time or TapeShort.
     pub fn tick(&mut self, time: u64) -> Result<(), Refusal>
         ensures answer { tick_answer result ≡ answer_to self.old (tick_of time) }
         ensures told { plain_numbers result ≡ told_of self.old (tick_of time) }
@@ -114,14 +114,14 @@ impl<D: Directory, T: Tape> Book<D, T> {
         self.engine.advance(time)
     }
 
-    // What stands on a side, told by its code (1 buy, 2 sell), at a place in rank, from 1; None where nothing does.
+    /// What stands on a side, told by its code (1 buy, 2 sell), at a place in rank, from 1; None where nothing does.
     pub fn ask(&self, side: u8, place: usize) -> Option<Standing>
         ensures { Answered self.now.book.market side place (option_map standing_as result) }
     {
         ask(&self.engine.market.table, side, place)
     }
 
-    // Why the resting order that the identifier names reaches as far as it does; None where it names none.
+    /// Why the resting order that the identifier names reaches as far as it does; None where it names none.
     pub fn why(&self, id: &[u8]) -> Option<Explanation>
         ensures { MatchOption result
             (named id.now self.now.book.market.orders ≡ None)
@@ -138,8 +138,8 @@ impl<D: Directory, T: Tape> Book<D, T> {
         })
     }
 
-    // The rows of the orders that rest, lowest entry number first. Some run of calls leads to the book; so the tape explains the
-    // discretion of each MDO among them, and no buy reaches a sell.
+    /// The rows of the orders that rest, lowest entry number first. Some run of calls leads to the book; so the tape explains the
+    /// discretion of each MDO among them, and no buy reaches a sell.
     pub fn resting_orders(&self) -> &[Row]
         ensures rows { map row_order result.now ≡ self.now.book.market.orders }
         ensures reached { Reached self.now }
@@ -150,21 +150,21 @@ impl<D: Directory, T: Tape> Book<D, T> {
         self.engine.market.table.rows()
     }
 
-    // How many lines stand on the tape.
+    /// How many lines stand on the tape.
     pub fn lines(&self) -> usize
         ensures { result ≡ length self.now.book.market.tape }
     {
         self.engine.market.tape.len()
     }
 
-    // The line at a place of the tape, the oldest at 1.
+    /// The line at a place of the tape, the oldest at 1.
     pub fn line(&self, place: usize) -> Option<Line>
         ensures { result ≡ at_place self.now.book.market.tape place }
     {
         self.engine.market.tape.read(place)
     }
 
-    // The book is no more; its figures are told, and directory and tape handed back.
+    /// The book is no more; its figures are told, and directory and tape handed back.
     pub fn close(self) -> (Figures, D, T)
         ensures figures { figures_as result.0 ≡ closing self.book.market }
         ensures names { HasPairsOf self.book.market.orders (D.Directory.number result.1) (D.Directory.count result.1) }

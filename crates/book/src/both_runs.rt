@@ -14,7 +14,7 @@ use std::fmt;
 use tape::Tape;
 use terms::Quote;
 
-// Two lists that were not played: both directories and both tapes, as they were.
+/// Two lists that were not played: both directories and both tapes, as they were.
 #[derive(Drop)]
 #[derive_where(Debug)]
 pub struct NotRerun<D, T, E, U> {
@@ -45,10 +45,10 @@ impl<D, T, E, U> fmt::Display for NotRerun<D, T, E, U> {
 
 impl<D: Drop, T: Drop, E: Drop, U: Drop> Error for NotRerun<D, T, E, U> {}
 
-// Two lists of calls, each on a new book at the quote, with directories and tapes of any makes. The law of whole days holds of
-// whatever comes out: ticks cannot change who trades, the tape explains discretion, and neither book stands crossed.
-// It fails for want of memory or at a tape that has lines. All memory is had before either book is opened, so that all four
-// come back as they were.
+/// Two lists of calls, each on a new book at the quote, with directories and tapes of any makes. The law of whole days holds of
+/// whatever comes out: ticks cannot change who trades, the tape explains discretion, and neither book stands crossed.
+/// It fails for want of memory or at a tape that has lines. All memory is had before either book is opened, so that all four
+/// come back as they were.
 pub fn rerun<D: Directory, T: Tape, E: Directory, U: Tape>(
     heap: Global,
     quote: Quote,

@@ -1,9 +1,9 @@
-// A call, and what is answered to it.
+//! A call, and what is answered to it.
 use rules::Refusal;
 use std::alloc::{AllocError, Global};
 use terms::{Quote, Ticket};
 
-// A call with all that it hands over; times are microseconds since midnight.
+/// A call with all that it hands over; times are microseconds since midnight.
 #[derive(Drop)]
 pub enum Call {
     Entry {
@@ -41,14 +41,14 @@ impl Call {
         }
     }
 
-    // Of a list of calls, all but the ticks are shared.
+    /// Of a list of calls, all but the ticks are shared.
     pub fn is_tick(&self) -> bool
         ensures { shared (call_of self.now ∷ []) ≡ elim result [ true ↦ [] | false ↦ call_of self.now ∷ [] ] }
     {
         matches!(self, Call::Tick { .. })
     }
 
-    // The same call once more. A ticket is never copied, so that a call has no Clone.
+    /// The same call once more. A ticket is never copied, so that a call has no Clone.
     pub fn again(&self, heap: Global) -> Result<Call, AllocError>
         ensures { IfOk result (λ c. call_of c ≡ call_of self.now) }
     {
@@ -71,7 +71,7 @@ impl Call {
     }
 }
 
-// `number` is the entry number; `traded` and `lapsed` are shares.
+/// `number` is the entry number; `traded` and `lapsed` are shares.
 #[derive(Clone, Copy, PartialEq, Eq, Debug, Drop)]
 pub enum Answer {
     Entered {
@@ -79,7 +79,7 @@ pub enum Answer {
         traded: u32,
         lapsed: u32,
     },
-    // The shares that were left.
+    /// The shares that were left.
     Cancelled(u32),
     Quoted,
     Ticked,

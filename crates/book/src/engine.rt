@@ -1,4 +1,4 @@
-// What a book is made of: a directory, the market, the clock and the count of entries.
+//! What a book is made of: a directory, the market, the clock and the count of entries.
 ghost use Rattle.std.specs.Prelude.{◌≡◌};
 ghost use Rattle.book.specs.Running.{BookTied, Sound, book_of};
 ghost use Rattle.book.specs.Carried.{Begun, Carried, Tidied, cancel_answer, entry_answer, quote_answer, time_and_tape};
@@ -19,7 +19,7 @@ use rules::{LAST_MOMENT, MOST_ENTRIES, MOST_RESTING, Refusal};
 use tape::Tape;
 use terms::{Identifier, Quote, Terms, TimeInForce};
 
-// Between calls it is sound, as `Book` says; while a call runs it need not be.
+/// Between calls it is sound, as `Book` says; while a call runs it need not be.
 #[derive(Drop)]
 pub(crate) struct Engine<D: Directory, T: Tape> {
     pub(crate) directory: D,
@@ -29,7 +29,7 @@ pub(crate) struct Engine<D: Directory, T: Tape> {
 }
 
 impl<D: Directory, T: Tape> Engine<D, T> {
-    // The time must be of the day and not before the clock, and the tape must have as many free lines as orders rest.
+    /// The time must be of the day and not before the clock, and the tape must have as many free lines as orders rest.
     pub(crate) fn check(&self, time: u64) -> Result<(), Refusal>
         ensures { result ≡ time_and_tape (T.Tape.free self.now.market.tape) time (book_of T.Tape self.now) }
     {
@@ -43,7 +43,7 @@ impl<D: Directory, T: Tape> Engine<D, T> {
         Ok(())
     }
 
-    // The start of every call.
+    /// The start of every call.
     pub(crate) fn advance(&mut self, time: u64) -> Result<(), Refusal>
         requires { Sound D.Directory T.Tape self.old }
         ensures { Begun D.Directory T.Tape self.old self.new time result }
@@ -53,7 +53,7 @@ impl<D: Directory, T: Tape> Engine<D, T> {
         Ok(())
     }
 
-    // Every period that is due has ended, at its own end, and what rests no more has left.
+    /// Every period that is due has ended, at its own end, and what rests no more has left.
     pub(crate) fn bring_to(&mut self, time: u64)
         requires { CanFollow T.Tape self.old.market time (settle time) }
         ensures book { book_of T.Tape self.new ≡ at_time time (book_of T.Tape self.old) }
@@ -64,7 +64,7 @@ impl<D: Directory, T: Tape> Engine<D, T> {
         self.clock = time;
     }
 
-    // Every row that is left rests; the directory still has the pairs of the rows, and the market is as it was.
+    /// Every row that is left rests; the directory still has the pairs of the rows, and the market is as it was.
     pub(crate) fn tidy(&mut self)
         ensures tidied { Tidied D.Directory T.Tape self.old self.new }
         ensures market { market_of T.Tape self.new.market ≡ market_of T.Tape self.old.market }
@@ -84,7 +84,7 @@ impl<D: Directory, T: Tape> Engine<D, T> {
         resting >= MOST_RESTING && terms.time_in_force == TimeInForce::Rest
     }
 
-    // The entry number that the order gets; the refusals are those that come once the clock is at the entry's time.
+    /// The entry number that the order gets; the refusals are those that come once the clock is at the entry's time.
     pub(crate) fn admit(&self, id: &[u8], terms: Terms) -> Result<u32, Refusal>
         requires tied { BookTied D.Directory self.now }
         requires rests { AllRest (rows_of self.now.market.table) }
@@ -102,7 +102,7 @@ impl<D: Directory, T: Tape> Engine<D, T> {
         Ok(self.entries + 1)
     }
 
-    // The new order is swept, and what is left of it rests under its identifier.
+    /// The new order is swept, and what is left of it rests under its identifier.
     pub(crate) fn sweep_and_rest(&mut self, time: u64, row: Row) -> (u32, u32, u32)
         requires ready { Ready D.Directory T.Tape self.old time row }
         requires place { HasPlace D.Directory self.old row }
@@ -117,7 +117,7 @@ impl<D: Directory, T: Tape> Engine<D, T> {
         (row.number, row.left.saturating_sub(left), 0)
     }
 
-    // The new order is swept, and what is left of it lapses.
+    /// The new order is swept, and what is left of it lapses.
     pub(crate) fn sweep_and_lapse(&mut self, time: u64, row: Row) -> (u32, u32, u32)
         requires { Ready D.Directory T.Tape self.old time row }
         ensures { Entered D.Directory T.Tape self.old self.new (rested ImmediateOrCancel time row.number row.left (swept_in time (row_order row) (market_of T.Tape self.old.market))) result }
@@ -129,7 +129,7 @@ impl<D: Directory, T: Tape> Engine<D, T> {
         (row.number, row.left.saturating_sub(left), left)
     }
 
-    // The number of the order that the terms make, how many of its shares traded, and how many lapsed.
+    /// The number of the order that the terms make, how many of its shares traded, and how many lapsed.
     pub(crate) fn enter_terms(
         &mut self,
         time: u64,
@@ -155,7 +155,7 @@ impl<D: Directory, T: Tape> Engine<D, T> {
         })
     }
 
-    // The shares left of the order with that entry number; 0 where it does not rest.
+    /// The shares left of the order with that entry number; 0 where it does not rest.
     pub(crate) fn shares_left(&self, number: u32) -> u32
         ensures { result ≡ left_of (resting number (market_of T.Tape self.now.market).orders) }
     {

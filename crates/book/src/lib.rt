@@ -1,4 +1,4 @@
-// The book that runs, and whole days: a list of calls on one book, and one list against another.
+//! The book that runs, and whole days: a list of calls on one book, and one list against another.
 #![tactic(auto)]
 
 mod book;

@@ -16,14 +16,14 @@ use std::alloc::{AllocError, Global};
 use tape::Tape;
 use terms::Quote;
 
-// The answers, in the calls' order, and the book after them.
+/// The answers, in the calls' order, and the book after them.
 #[derive(Drop)]
 pub struct Played<D: Directory, T: Tape> {
     pub answers: Vec<Answer>,
     pub book: Book<D, T>,
 }
 
-// A book about to be opened, with room for the answers to a list of calls: all memory that opening the book and playing the calls takes has been had.
+/// A book about to be opened, with room for the answers to a list of calls: all memory that opening the book and playing the calls takes has been had.
 #[derive(Drop)]
 pub(crate) struct Stage<D: Directory, T: Tape> {
     pub(crate) book: Prepared<D, T>,
@@ -31,7 +31,7 @@ pub(crate) struct Stage<D: Directory, T: Tape> {
 }
 
 impl<D: Directory, T: Tape> Stage<D, T> {
-    // A tape that has lines is refused before memory is asked for.
+    /// A tape that has lines is refused before memory is asked for.
     pub(crate) fn new(
         heap: Global,
         quote: Quote,
@@ -55,7 +55,7 @@ impl<D: Directory, T: Tape> Stage<D, T> {
         Ok(Stage { book, answers })
     }
 
-    // Opens the book and plays the calls on it, which cannot fail.
+    /// Opens the book and plays the calls on it, which cannot fail.
     pub(crate) fn play(self, calls: &[Call]) -> Played<D, T>
         requires none { self.answers.items ≡ [] }
         requires room { length calls.now ≤ vec_capacity self.answers }
@@ -98,7 +98,7 @@ fn answer_or_refuse<D: Directory, T: Tape>(
     })
 }
 
-// The call is made, and its answer told; the list of calls stays as it is.
+/// The call is made, and its answer told; the list of calls stays as it is.
 pub fn carry_out<D: Directory, T: Tape>(book: &mut Book<D, T>, call: &Call) -> Answer
     ensures answer { answer_of result ≡ answer_to book.old (call_of call.now) }
     ensures book { book.new ≡ after book.old (call_of call.now) }
@@ -106,8 +106,8 @@ pub fn carry_out<D: Directory, T: Tape>(book: &mut Book<D, T>, call: &Call) -> A
     answer_or_refuse(book, call).unwrap_or_else(Answer::Refused)
 }
 
-// Opens a book and plays the calls on it. Where memory is wanting or the tape has lines, directory and tape come back as they
-// were, and no call has been made: all memory is had before the book is opened.
+/// Opens a book and plays the calls on it. Where memory is wanting or the tape has lines, directory and tape come back as they
+/// were, and no call has been made: all memory is had before the book is opened.
 pub fn play<D: Directory, T: Tape>(
     heap: Global,
     quote: Quote,
@@ -122,7 +122,7 @@ pub fn play<D: Directory, T: Tape>(
     Ok(Stage::new(heap, quote, directory, tape, calls)?.play(calls))
 }
 
-// The answers, in the calls' order, where there is room for all of them.
+/// The answers, in the calls' order, where there is room for all of them.
 pub(crate) fn answer_each<D: Directory, T: Tape>(
     book: &mut Book<D, T>,
     calls: &[Call],
@@ -137,7 +137,7 @@ pub(crate) fn answer_each<D: Directory, T: Tape>(
     }
 }
 
-// The answers, in the calls' order. Room for all of them is had first; without it no call is made.
+/// The answers, in the calls' order. Room for all of them is had first; without it no call is made.
 pub fn replay<D: Directory, T: Tape>(
     heap: Global,
     book: &mut Book<D, T>,

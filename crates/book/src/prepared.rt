@@ -1,4 +1,4 @@
-// What a book is opened on.
+//! What a book is opened on.
 ghost use Rattle.std.specs.Prelude.{MatchResult, [], ◌≡◌};
 ghost use Rattle.book.specs.Opening.{Because};
 ghost use Rattle.market.specs.Seen.{quote_of, rows_of, seen};
@@ -13,7 +13,7 @@ use std::alloc::Global;
 use tape::Tape;
 use terms::Quote;
 
-// A directory and an empty tape, both as they were handed over, and all memory that the book will ever use.
+/// A directory and an empty tape, both as they were handed over, and all memory that the book will ever use.
 #[derive(Drop)]
 pub(crate) struct Prepared<D: Directory, T: Tape> {
     pub(crate) directory: D,
@@ -41,7 +41,7 @@ impl<D: Directory, T: Tape> Prepared<D, T> {
     ghost use Rattle.book.specs.Preparing.{PreparedOn};
     ghost use Rattle.book.specs.Running.{new_on};
 
-    // All memory is had here. A tape that has lines is refused before memory is asked for.
+    /// All memory is had here. A tape that has lines is refused before memory is asked for.
     pub(crate) fn new(
         heap: Global,
         quote: Quote,
@@ -66,7 +66,7 @@ impl<D: Directory, T: Tape> Prepared<D, T> {
         }
     }
 
-    // Directory and tape as they were, where no book is to be opened after all.
+    /// Directory and tape as they were, where no book is to be opened after all.
     pub(crate) fn hand_back(self) -> (D, T)
         ensures directory { result.0 ≡ self.directory }
         ensures tape { result.1 ≡ self.tape }
@@ -74,7 +74,7 @@ impl<D: Directory, T: Tape> Prepared<D, T> {
         (self.directory, self.tape)
     }
 
-    // The directory is emptied. Everything is had, so that this cannot fail.
+    /// The directory is emptied. Everything is had, so that this cannot fail.
     pub(crate) fn open(self) -> Book<D, T>
         ensures { result ≡ new_on (T.Tape.free self.tape) (quote_of self.table).bid (quote_of self.table).offer }
     {

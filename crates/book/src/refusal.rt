@@ -10,22 +10,22 @@ use std::error::Error;
 use std::fmt;
 use terms::Ticket;
 
-// A refused entry hands its ticket back.
+/// A refused entry hands its ticket back.
 #[derive(Debug, Drop)]
 pub struct Rejected {
     pub ticket: Ticket,
     pub why: Refusal,
 }
 
-// Why a book is not opened.
+/// Why a book is not opened.
 #[derive(Clone, Copy, PartialEq, Eq, Debug, Drop)]
 pub enum OpenRefusal {
-    // the tape already has lines
+    /// the tape already has lines
     TapeUsed,
     NoMemory,
 }
 
-// A book that is not opened hands directory and tape back, as they were.
+/// A book that is not opened hands directory and tape back, as they were.
 #[derive(Drop)]
 #[derive_where(Debug)]
 pub struct NotOpened<D, T> {

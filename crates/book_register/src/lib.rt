@@ -1,4 +1,4 @@
-// Registers loaded into a book and written from it.
+//! Registers loaded into a book and written from it.
 #![tactic(auto)]
 
 mod load;

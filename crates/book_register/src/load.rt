@@ -1,4 +1,4 @@
-// A whole register.
+//! A whole register.
 ghost use Rattle.std.specs.Prelude.{Some, ◌≡◌};
 ghost use Rattle.book_register.specs.Faults.{load_fault_layer, load_fault_number, load_fault_place, load_fault_text, load_fault_words, slip_of};
 ghost use Rattle.book_register.specs.Loaded.{Attempted, LoadedInto};
@@ -14,7 +14,7 @@ use std::error::Error;
 use std::fmt;
 use tape::Tape;
 
-// A fault in numbers, as it is put on a roll and printed.
+/// A fault in numbers, as it is put on a roll and printed.
 #[derive(Clone, Copy, PartialEq, Eq, Debug, Default, Drop)]
 pub struct Slip {
     pub number: u8,
@@ -22,21 +22,21 @@ pub struct Slip {
     pub place: usize,
 }
 
-// A finished load: the orders entered, and the slips put.
+/// A finished load: the orders entered, and the slips put.
 #[derive(Clone, Copy, Default, PartialEq, Eq, Debug, Drop)]
 pub struct Loaded {
     pub entered: usize,
     pub slips: usize,
 }
 
-// Each fault holds its place, counted from 0: of the field's first byte, or of the order's.
+/// Each fault holds its place, counted from 0: of the field's first byte, or of the order's.
 #[derive(Clone, Copy, PartialEq, Eq, Debug, Drop)]
 pub enum LoadFault {
-    // of the register itself: a field, an order or a ticket
+    /// of the register itself: a field, an order or a ticket
     Register(Fault),
-    // a slip is due for the order, and there is no free place for it
+    /// a slip is due for the order, and there is no free place for it
     SlipsFull(usize),
-    // the book refuses the order
+    /// the book refuses the order
     Book(Refusal, usize),
 }
 
@@ -48,8 +48,8 @@ impl From<Fault> for LoadFault {
     }
 }
 
-// Enters the orders of a register one by one, all at the time. An order whose ticket or entry is refused leaves a slip, and
-// the load goes on; it stops at any other fault, and where a slip finds no place. What was entered before stays.
+/// Enters the orders of a register one by one, all at the time. An order whose ticket or entry is refused leaves a slip, and
+/// the load goes on; it stops at any other fault, and where a slip finds no place. What was entered before stays.
 pub fn load_register<D: Directory, T: Tape>(
     book: &mut Book<D, T>,
     time: u64,
@@ -75,7 +75,7 @@ pub fn load_register<D: Directory, T: Tape>(
     Ok(loaded)
 }
 
-// Enters the order at the time.
+/// Enters the order at the time.
 pub(crate) fn load_order<D: Directory, T: Tape>(
     book: &mut Book<D, T>,
     time: u64,

@@ -1,4 +1,4 @@
-// A whole book.
+//! A whole book.
 ghost use Rattle.book_register.specs.Written.{Written};
 ghost use Rattle.register.specs.RoundTrip.{WritingGivesTheRegisterAgain};
 
@@ -7,8 +7,8 @@ use directory::Directory;
 use register::{NoRoom, Writer};
 use tape::Tape;
 
-// Writes the orders that rest, by ascending entry number and each with its shares left, and tells how many bytes they take;
-// an order that does not fit ends the writing, and those before it stand.
+/// Writes the orders that rest, by ascending entry number and each with its shares left, and tells how many bytes they take;
+/// an order that does not fit ends the writing, and those before it stand.
 pub fn write_book<D: Directory, T: Tape>(
     book: &Book<D, T>,
     buffer: &mut [u8],

@@ -1,4 +1,4 @@
-// What is served on a book of any makes: a day file, and entries until no more are accepted.
+//! What is served on a book of any makes: a day file, and entries until no more are accepted.
 use anyhow::Context;
 use day_file::{Command, Desk, Frame, Makes, Output, Serve};
 use directory::Directory;
@@ -92,7 +92,7 @@ impl Serve for Spending<'_> {
     }
 }
 
-// Where nothing ever rests, a tape needs no room.
+/// Where nothing ever rests, a tape needs no room.
 pub fn spend_entries(heap: Global, makes: Makes, out: &mut Output) -> anyhow::Result<()> {
     let quote = Quote::new(1000, 1001)
         .ok()

@@ -1,4 +1,4 @@
-// The day files that are named, on each of the four pairs of makes; then entries until no more are accepted.
+//! The day files that are named, on each of the four pairs of makes; then entries until no more are accepted.
 #![tactic(auto)]
 
 mod days;

@@ -1,5 +1,5 @@
-// Answers what a format holds: each argument names a format, and they are answered in turn. The status is 0, 1 where something
-// differs, and 2 where arguments or input are bad or there is no memory.
+//! Answers what a format holds: each argument names a format, and they are answered in turn. The status is 0, 1 where something
+//! differs, and 2 where arguments or input are bad or there is no memory.
 #![tactic(auto)]
 
 mod prefixes;

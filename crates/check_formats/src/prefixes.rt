@@ -1,4 +1,4 @@
-// Every prefix and every one-byte change of a stored register, each loaded into new books, and what became of them.
+//! Every prefix and every one-byte change of a stored register, each loaded into new books, and what became of them.
 use crate::tally::Tally;
 use anyhow::Context;
 use std::alloc::Global;
@@ -48,7 +48,7 @@ fn changes(heap: Global, quote: Quote, places: usize) -> anyhow::Result<Tally> {
     Ok(tally)
 }
 
-// True where the makes agree on every load.
+/// True where the makes agree on every load.
 pub(crate) fn answer(rt: &HostRuntime) -> anyhow::Result<bool> {
     let heap = rt.alloc();
     let quote = Quote::new(1000, 1001).ok().context("no quote")?;

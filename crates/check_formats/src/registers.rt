@@ -1,4 +1,4 @@
-// Registers in hexadecimal on standard input, one a line: for each the orders that a reader finds, and its fault.
+//! Registers in hexadecimal on standard input, one a line: for each the orders that a reader finds, and its fault.
 use anyhow::Context;
 use register::{Listed, Reader};
 use std::alloc::{AllocError, Global};
@@ -57,7 +57,7 @@ fn print_register(rt: &HostRuntime, register: &[u8]) -> io::Result<()> {
     Ok(())
 }
 
-// Nothing is compared, so that nothing differs.
+/// Nothing is compared, so that nothing differs.
 pub(crate) fn answer(rt: &HostRuntime) -> anyhow::Result<bool> {
     let heap = rt.alloc();
     for line in BufReader::new(heap, rt.stdin())?.lines(heap) {

@@ -1,4 +1,4 @@
-// What became of many loads, each of a register into a new book on each of two pairs of makes.
+//! What became of many loads, each of a register into a new book on each of two pairs of makes.
 use anyhow::Context;
 use book::Book;
 use book_register::{LoadFault, Loaded, Slip, load_register};
@@ -14,7 +14,7 @@ const LINES: usize = 8;
 
 const PLACES: usize = 4;
 
-// `stops` and `slips` count by the fault's number.
+/// `stops` and `slips` count by the fault's number.
 #[derive(Clone, Copy, Default, Drop)]
 pub(crate) struct Tally {
     loads: u32,
@@ -22,7 +22,7 @@ pub(crate) struct Tally {
     entered: u64,
     stops: [u32; 17],
     slips: [u32; 17],
-    // loads that other makes answer otherwise
+    /// loads that other makes answer otherwise
     differ: u32,
 }
 
@@ -68,7 +68,7 @@ impl Tally {
         self.differ = self.differ.saturating_add(u32::from(!alike));
     }
 
-    // The answer and the slips are counted, and whether the other makes give others. The rolls have so many places.
+    /// The answer and the slips are counted, and whether the other makes give others. The rolls have so many places.
     pub(crate) fn try_register(
         &mut self,
         heap: Global,

@@ -1,4 +1,4 @@
-// The makes of the directory under the same calls.
+//! The makes of the directory under the same calls.
 ghost use Rattle.std.specs.Prelude.{◌≡◌, Some, None};
 ghost use Rattle.directory.specs.Pairs.{put_refusal};
 
@@ -11,8 +11,8 @@ fn numbered(heap: Global, front: &str, n: u32) -> Result<Vec<u8>, AllocError> {
     Ok(format!(in heap; "{front}{n:03}")?.into_bytes())
 }
 
-// Identifiers for the schedule: short ones, ones that share their first twelve bytes, ones of twenty bytes, ones that have one
-// home in the hashed table, and ones that are not lawful.
+/// Identifiers for the schedule: short ones, ones that share their first twelve bytes, ones of twenty bytes, ones that have one
+/// home in the hashed table, and ones that are not lawful.
 pub fn pool(heap: Global) -> Result<Vec<Vec<u8>>, AllocError> {
     let mut names = Vec::new(heap);
     for n in 0..20u32 {
@@ -52,7 +52,7 @@ impl Told {
     }
 }
 
-// What a schedule of calls came to.
+/// What a schedule of calls came to.
 #[derive(Clone, Copy, Default, Drop)]
 pub struct Tally {
     put: u32,
@@ -125,7 +125,7 @@ impl Tally {
     }
 }
 
-// Written against the trait alone: what is put is found, with any make.
+/// Written against the trait alone: what is put is found, with any make.
 pub fn put_then_find<D: Directory>(directory: &mut D, id: &[u8], entry: u32) -> Option<u32>
     ensures { put_refusal id.now (D.number directory.old id.now) (D.count directory.old) ≡ None → result ≡ Some entry }
 {
@@ -133,7 +133,7 @@ pub fn put_then_find<D: Directory>(directory: &mut D, id: &[u8], entry: u32) -> 
     directory.find(id)
 }
 
-// Every identifier once, so that 64 are held and the rest find no room.
+/// Every identifier once, so that 64 are held and the rest find no room.
 pub fn fill<A: Directory, B: Directory>(one: &mut A, other: &mut B, names: &[Vec<u8>]) -> Tally {
     let mut tally = Tally::default();
     one.clear();
@@ -146,7 +146,7 @@ pub fn fill<A: Directory, B: Directory>(one: &mut A, other: &mut B, names: &[Vec
     tally
 }
 
-// Puts, finds and removes at random.
+/// Puts, finds and removes at random.
 pub fn compare<A: Directory, B: Directory>(
     one: &mut A,
     other: &mut B,

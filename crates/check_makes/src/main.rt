@@ -1,4 +1,4 @@
-// Runs long schedules over both makes of the directory and of the tape, and compares their answers call by call.
+//! Runs long schedules over both makes of the directory and of the tape, and compares their answers call by call.
 #![tactic(auto)]
 
 mod directories;
@@ -11,7 +11,7 @@ use directory::{HashedDirectory, RowDirectory};
 use std::process::ExitCode;
 use std::{env, fmt};
 
-// A small generator of numbers, the same on every run.
+/// A small generator of numbers, the same on every run.
 #[derive(Drop)]
 pub struct Random {
     state: u64,
@@ -22,7 +22,7 @@ impl Random {
         Random { state: seed }
     }
 
-    // The next number, below 2 to the 32nd.
+    /// The next number, below 2 to the 32nd.
     pub fn next(&mut self) -> u32 {
         self.state = self
             .state
@@ -32,7 +32,7 @@ impl Random {
     }
 }
 
-// Whether two makes answered alike, and a checksum of what they told.
+/// Whether two makes answered alike, and a checksum of what they told.
 #[derive(Clone, Copy, Default, Drop)]
 pub struct Agreement {
     sum: u64,

@@ -1,4 +1,4 @@
-// The makes of the tape under the same calls.
+//! The makes of the tape under the same calls.
 use crate::{Agreement, Random};
 use std::fmt;
 use tape::{ByteTape, Full, LINE_BYTES, Line, Mark, RecordTape, Tape, line_in, write_lines};
@@ -10,7 +10,7 @@ const ROOM: usize = LINES * LINE_BYTES + 17;
 // Places read: some past the last line.
 const PLACES: usize = 62;
 
-// What two tapes came to.
+/// What two tapes came to.
 #[derive(Clone, Copy, Default, Drop)]
 pub struct TapeTally {
     written: u32,
@@ -98,7 +98,7 @@ fn read_bytes<A: Tape>(one: &A, bytes: &[u8], tally: &mut TapeTally) {
     }
 }
 
-// The bytes past the lines stay as they are.
+/// The bytes past the lines stay as they are.
 pub fn compare_tapes(random: &mut Random) -> TapeTally {
     let mut room = [Line::default(); LINES];
     let mut bytes = [7u8; ROOM];

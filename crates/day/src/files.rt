@@ -1,4 +1,4 @@
-// The two commands that reach files. A file is written whole or not at all.
+//! The two commands that reach files. A file is written whole or not at all.
 use anyhow::Context;
 use day_file::{Desk, Output};
 use directory::Directory;
@@ -61,7 +61,7 @@ fn replace(rt: &HostRuntime, path: &str, bytes: &[u8]) -> io::Result<()> {
     replace_whole(rt, named.as_path().as_str(), bytes, mode)
 }
 
-// A register of 64 orders fits: each takes at most 49 bytes. It is told once it stands in the file.
+/// A register of 64 orders fits: each takes at most 49 bytes. It is told once it stands in the file.
 pub fn write<D: Directory, T: Tape>(
     rt: &HostRuntime,
     line: u64,

@@ -1,4 +1,4 @@
-// Answers a day file from standard input, line by line.
+//! Answers a day file from standard input, line by line.
 #![tactic(auto)]
 
 mod files;

@@ -1,4 +1,4 @@
-// The day file on standard input, and a book of any makes that answers it.
+//! The day file on standard input, and a book of any makes that answers it.
 use crate::files::{load, write};
 use anyhow::Context;
 use day_file::{Command, Desk, Frame, Opening, Output, Serve};
@@ -11,7 +11,7 @@ use tape::Tape;
 // So much is gathered before it is printed, where more input is at hand.
 const GATHERED: usize = 65536;
 
-// The lines of standard input.
+/// The lines of standard input.
 #[derive(Drop)]
 pub struct Input {
     reader: BufReader<Stdin>,
@@ -41,7 +41,7 @@ impl Input {
         self.reader.buffer().is_empty()
     }
 
-    // Reads up to the command that opens the book; None where the input ends before.
+    /// Reads up to the command that opens the book; None where the input ends before.
     pub fn opening(&mut self, frame: &mut Frame) -> anyhow::Result<Option<Opening>> {
         // Nothing grows smaller while input is waited for: the lines are counted, so that the loop ends.
         for _ in 0..u64::MAX {
@@ -57,7 +57,7 @@ impl Input {
     }
 }
 
-// The commands after the first.
+/// The commands after the first.
 #[derive(Drop)]
 pub struct Serving<'a> {
     pub rt: &'a HostRuntime,

@@ -3,7 +3,7 @@ use std::error::Error;
 use std::fmt;
 use terms::Draft;
 
-// Prices are whole cents, times microseconds; nothing is judged yet but that numbers are numbers.
+/// Prices are whole cents, times microseconds; nothing is judged yet but that numbers are numbers.
 #[derive(Clone, Copy, Drop)]
 pub enum Command<'a> {
     Book {
@@ -45,14 +45,14 @@ pub enum Command<'a> {
     Close,
 }
 
-// A line that is none, and the form that it should have had.
+/// A line that is none, and the form that it should have had.
 #[derive(Clone, Copy, PartialEq, Eq, Debug, Drop)]
 pub struct BadLine {
     pub number: u64,
     pub expected: Expected,
 }
 
-// The form that a line should have had.
+/// The form that a line should have had.
 #[derive(Clone, Copy, PartialEq, Eq, Debug, Drop)]
 pub enum Expected {
     Command,
@@ -68,7 +68,7 @@ pub enum Expected {
     Close,
 }
 
-// None for an empty line and for one whose first word begins with #.
+/// None for an empty line and for one whose first word begins with #.
 pub fn read_command<'a>(line: &'a [u8]) -> Result<Option<Command<'a>>, Expected> {
     let mut words = Words::new(line);
     let Some(name) = words.next() else {

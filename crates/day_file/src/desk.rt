@@ -1,4 +1,4 @@
-// A desk: a book, and how many of its trades have been told.
+//! A desk: a book, and how many of its trades have been told.
 use crate::command::Command;
 use crate::output::{Output, Refused};
 use book::{Book, OpenRefusal};
@@ -10,7 +10,7 @@ use std::alloc::{AllocError, Global};
 use tape::Tape;
 use terms::{Draft, Quote, Ticket};
 
-// How many slips a load has places for.
+/// How many slips a load has places for.
 pub const SLIP_PLACES: usize = 64;
 
 #[derive(Drop)]
@@ -38,7 +38,7 @@ impl<D: Directory, T: Tape> Desk<D, T> {
     ghost use Rattle.day_file.specs.Desks.{after_load, book_of, running_of};
     ghost use Rattle.std.specs.Prelude.{◌≡◌};
 
-    // The trades that have come since they were last told.
+    /// The trades that have come since they were last told.
     pub(crate) fn tell_trades(&mut self, out: &mut Output) -> Result<(), AllocError>
         ensures { running_of self.new ≡ running_of self.old }
     {
@@ -73,8 +73,8 @@ impl<D: Directory, T: Tape> Desk<D, T> {
         Ok([])
     }
 
-    // Answers a command that asks for the book alone, with the trades that it made. None for any other, which programs treat each in
-    // its own way.
+    /// Answers a command that asks for the book alone, with the trades that it made. None for any other, which programs treat each in
+    /// its own way.
     pub fn answer(
         &mut self,
         command: &Command,
@@ -97,7 +97,7 @@ impl<D: Directory, T: Tape> Desk<D, T> {
         Ok(Some(()))
     }
 
-    // The slips, how the load ended, and the trades that it made.
+    /// The slips, how the load ended, and the trades that it made.
     pub fn load(&mut self, time: u64, register: &[u8], out: &mut Output) -> Result<(), AllocError>
         ensures { book_of self.new ≡ after_load SLIP_PLACES (running_of self.old) time register.now }
     {
@@ -109,8 +109,8 @@ impl<D: Directory, T: Tape> Desk<D, T> {
         self.tell_trades(out)
     }
 
-    // Writes the resting orders into the buffer: how many bytes they take, or that they do not fit. Who puts them into a file tells it
-    // when they are there.
+    /// Writes the resting orders into the buffer: how many bytes they take, or that they do not fit. Who puts them into a file tells it
+    /// when they are there.
     pub fn write(&self, buffer: &mut [u8]) -> Result<usize, NoRoom>
         ensures { Written (book_of self.now) buffer.old buffer.new result }
     {

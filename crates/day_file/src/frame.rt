@@ -1,15 +1,15 @@
-// The frame of a day file: its lines are counted, and its first command opens the book.
+//! The frame of a day file: its lines are counted, and its first command opens the book.
 use crate::command::{BadLine, Command, Expected, read_command};
 use terms::{Quote, Refusal};
 
-// What the first command opens the book with: the quote, or why it is refused, and how many lines its tape has room for.
+/// What the first command opens the book with: the quote, or why it is refused, and how many lines its tape has room for.
 #[derive(Clone, Copy, Drop)]
 pub struct Opening {
     pub quote: Result<Quote, Refusal>,
     pub lines: usize,
 }
 
-// How many lines have been read.
+/// How many lines have been read.
 #[derive(Clone, Copy, PartialEq, Eq, Debug, Default, Drop)]
 pub struct Frame {
     lines: u64,
@@ -20,7 +20,7 @@ impl Frame {
     ghost use Rattle.day_file.specs.Frames.{lines_read};
     ghost use Rattle.day_file.specs.Numbers.{most};
 
-    // The number of the line that was read last; the first is 1.
+    /// The number of the line that was read last; the first is 1.
     pub fn line(&self) -> u64
         ensures { result ≡ lines_read self.now }
     {
@@ -40,7 +40,7 @@ impl Frame {
         read_command(line).map_err(|expected| self.bad(expected))
     }
 
-    // The next line while no book is open: where it has a command, it must open the book.
+    /// The next line while no book is open: where it has a command, it must open the book.
     pub fn opening(&mut self, line: &[u8]) -> Result<Option<Opening>, BadLine>
         ensures { lines_read self.new ≡ min (lines_read self.old + 1) most }
     {
@@ -54,7 +54,7 @@ impl Frame {
         }
     }
 
-    // The next line while the book is open: it opens none, and the day ends at `close`.
+    /// The next line while the book is open: it opens none, and the day ends at `close`.
     pub fn command<'a>(&mut self, line: &'a [u8]) -> Result<Option<Command<'a>>, BadLine>
         ensures { lines_read self.new ≡ min (lines_read self.old + 1) most }
     {
@@ -64,7 +64,7 @@ impl Frame {
         }
     }
 
-    // Reads a text up to the command that opens the book; None where there is none.
+    /// Reads a text up to the command that opens the book; None where there is none.
     pub fn open(&mut self, text: &[u8]) -> Result<Option<Opening>, BadLine> {
         for line in text.split(|byte| *byte == b'\n') {
             let opening = self.opening(line)?;

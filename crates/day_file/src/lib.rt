@@ -1,4 +1,4 @@
-// Day files: lines of text, what they ask of a book, and what is answered.
+//! Day files: lines of text, what they ask of a book, and what is answered.
 #![tactic(auto)]
 
 mod command;
@@ -14,5 +14,5 @@ pub use frame::{Frame, Opening};
 pub use makes::{DirectoryMake, Makes, NoMemory, Serve, TapeMake, byte_room, record_room};
 pub use output::Output;
 
-// Of the programs.
+/// Of the programs.
 pub const VERSION: &str = "1.0";

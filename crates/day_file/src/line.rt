@@ -1,4 +1,4 @@
-// The words of a line, and the numbers in them.
+//! The words of a line, and the numbers in them.
 ghost use Rattle.std.specs.Prelude.{◌≡◌};
 ghost use Rattle.day_file.specs.Numbers.{most, most_of, near, size_from, size_in, whole_in, within};
 
@@ -60,7 +60,7 @@ fn size_in(digits: &[u8]) -> Option<u64>
     Some(size)
 }
 
-// Digits, which a minus may precede.
+/// Digits, which a minus may precede.
 pub(crate) fn whole(word: &[u8]) -> Option<i128>
     ensures { result ≡ whole_in word.now }
 {

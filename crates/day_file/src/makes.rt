@@ -1,4 +1,4 @@
-// The makes of directory and tape that a book may stand on; the answers are the same on all.
+//! The makes of directory and tape that a book may stand on; the answers are the same on all.
 ghost use Rattle.std.specs.Prelude.{IfOk, vec_len, ◌*◌, ◌≡◌};
 
 use crate::desk::Desk;
@@ -29,17 +29,17 @@ pub struct Makes {
     pub tape: TapeMake,
 }
 
-// Where memory is wanting when a book is opened.
+/// Where memory is wanting when a book is opened.
 #[derive(Clone, Copy, PartialEq, Eq, Debug, Drop)]
 pub enum NoMemory {
-    // an allocation failed
+    /// an allocation failed
     Failed,
-    // the tape's size is past all memory
+    /// the tape's size is past all memory
     Tape,
     Book,
 }
 
-// What is done with a desk, whatever the makes of its book.
+/// What is done with a desk, whatever the makes of its book.
 pub trait Serve: Drop {
     type Served;
 
@@ -109,7 +109,7 @@ impl Makes {
         },
     ];
 
-    // Opens a book of these makes, whose tape has room for so many lines, and has its desk served.
+    /// Opens a book of these makes, whose tape has room for so many lines, and has its desk served.
     pub fn serve<S: Serve>(
         self,
         heap: Global,
@@ -136,14 +136,14 @@ fn open<D: Directory + Drop, T: Tape + Drop>(
     Desk::open(heap, quote, directory, tape).map_err(|_| NoMemory::Book)
 }
 
-// Room for so many lines of a tape of records.
+/// Room for so many lines of a tape of records.
 pub fn record_room(heap: Global, lines: usize) -> Result<Vec<Line>, NoMemory>
     ensures { IfOk result (λ room. vec_len room ≡ lines) }
 {
     Ok(vec![in heap; Line::default(); lines]?)
 }
 
-// Room for so many lines of a tape of bytes.
+/// Room for so many lines of a tape of bytes.
 pub fn byte_room(heap: Global, lines: usize) -> Result<Vec<u8>, NoMemory>
     ensures { IfOk result (λ room. vec_len room ≡ lines * LINE_BYTES) }
 {

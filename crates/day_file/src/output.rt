@@ -1,4 +1,4 @@
-// What is answered, and why a command is refused.
+//! What is answered, and why a command is refused.
 ghost use Rattle.std.specs.Prelude.{◌≡◌};
 ghost use Rattle.day_file.specs.Refusals.{number_of};
 
@@ -11,14 +11,14 @@ use std::alloc::{AllocError, Global};
 use tape::Line;
 use terms::Refusal as Unlawful;
 
-// Why a command is refused: by what it says, or by the book.
+/// Why a command is refused: by what it says, or by the book.
 #[derive(Clone, Copy, PartialEq, Eq, Debug, Drop)]
 pub(crate) enum Refused {
     Unlawful(Unlawful),
     Book(Refusal),
 }
 
-// Text that answers are gathered in until it is printed.
+/// Text that answers are gathered in until it is printed.
 #[derive(Drop)]
 pub struct Output {
     bytes: Vec<u8>,
@@ -85,7 +85,7 @@ impl Output {
         Ok(())
     }
 
-    // A line of a word and numbers.
+    /// A line of a word and numbers.
     pub fn line(&mut self, word: &str, numbers: &[u64]) -> Result<(), AllocError>
         ensures { OnOk result (text_of self.new ≡ text_of self.old ++ line_text word.now numbers.now) }
     {
@@ -98,14 +98,14 @@ impl Output {
         self.line("refused", &[u64::from(number)])
     }
 
-    // Number, layer and place of a fault, after the word.
+    /// Number, layer and place of a fault, after the word.
     pub(crate) fn slip(&mut self, word: &str, slip: Slip) -> Result<(), AllocError> {
         let number = u64::from(slip.number);
         let layer = u64::from(slip.layer);
         self.line(word, &[number, layer, slip.place as u64])
     }
 
-    // The word and the numbers of what was done, or the refusal.
+    /// The word and the numbers of what was done, or the refusal.
     pub(crate) fn answer<const N: usize>(
         &mut self,
         word: &str,

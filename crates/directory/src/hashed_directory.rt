@@ -11,16 +11,16 @@ use terms::Identifier;
 
 pub(crate) const PLACES: usize = 128;
 
-// What a look for an identifier comes to: the place and the number of its pair, or the free place where the look ends.
+/// What a look for an identifier comes to: the place and the number of its pair, or the free place where the look ends.
 #[derive(Clone, Copy)]
 pub(crate) enum Spot {
     Taken { place: usize, number: u32 },
     Free { place: usize },
 }
 
-// A directory in a hashed table: open addressing by linear probing, with backward shift when a pair is removed.
-// The table has twice the places that can be taken, and is had at making. Not a map,
-// since no call may allocate.
+/// A directory in a hashed table: open addressing by linear probing, with backward shift when a pair is removed.
+/// The table has twice the places that can be taken, and is had at making. Not a map,
+/// since no call may allocate.
 #[derive(Drop)]
 pub struct HashedDirectory {
     pub(crate) places: Vec<Option<Entry>>,
@@ -38,7 +38,7 @@ impl HashedDirectory {
     ghost use Rattle.directory.specs.Pairs.{Emptied};
     ghost use Rattle.directory.specs.Table.{Looked};
 
-    // A directory with no pair. Fails only for want of memory.
+    /// A directory with no pair. Fails only for want of memory.
     pub fn new(heap: Global) -> Result<HashedDirectory, AllocError>
         ensures { IfOk result (λ d. Emptied (hashed_number d) (hashed_count d)) }
     {

@@ -1,4 +1,4 @@
-// Whole identifier to entry number.
+//! Whole identifier to entry number.
 #![tactic(auto)]
 
 mod directory;

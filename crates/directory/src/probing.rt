@@ -5,7 +5,7 @@ ghost use Rattle.directory.specs.Table.{Closed, Gapped, home_place as home_place
 use crate::entry::Entry;
 use crate::hashed_directory::PLACES;
 
-// The place where a look for an identifier begins, from 0 to 127. Every byte counts.
+/// The place where a look for an identifier begins, from 0 to 127. Every byte counts.
 pub fn home_place(id: &[u8]) -> usize
     ensures value { result ≡ home_place_of id.now }
     ensures within { result < place_count }
@@ -32,7 +32,7 @@ fn steps_between(from: usize, to: usize) -> usize
     (to + PLACES - from) % PLACES
 }
 
-// Shifts back the pairs after a place that was freed, as far as one of them would no longer be found.
+/// Shifts back the pairs after a place that was freed, as far as one of them would no longer be found.
 pub(crate) fn close_gap(places: &mut Vec<Option<Entry>>, gap: usize)
     requires { Gapped places.old.items gap }
     ensures { Closed places.old.items places.new.items }

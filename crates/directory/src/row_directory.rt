@@ -8,15 +8,15 @@ use std::alloc::{AllocError, Global};
 use std::marker::Model;
 use terms::Identifier;
 
-// A directory of rows, one pair each, the newest last; room for 64 is had at making. Not a map, since no call may
-// allocate. It is seen as its pairs.
+/// A directory of rows, one pair each, the newest last; room for 64 is had at making. Not a map, since no call may
+/// allocate. It is seen as its pairs.
 #[derive(Drop)]
 pub struct RowDirectory {
     pub(crate) rows: Vec<Entry>,
 }
 
 impl RowDirectory {
-    // A directory with no pair. Fails only for want of memory.
+    /// A directory with no pair. Fails only for want of memory.
     pub fn new(heap: Global) -> Result<RowDirectory, AllocError>
         ensures { IfOk result (λ d. d ≡ []) }
     {

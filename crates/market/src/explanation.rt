@@ -11,13 +11,13 @@ use crate::trade::mark_of;
 use tape::Tape;
 use terms::Side;
 
-// Why an order reaches as far as it does; where several hold, the first of these is told.
+/// Why an order reaches as far as it does; where several hold, the first of these is told.
 #[derive(Clone, Copy, PartialEq, Eq, Debug, Drop)]
 pub enum Why {
     NoMdo,
     AtLimit,
     AtMidpoint,
-    // by the line at that place of the tape, oldest 1, and until that time, in microseconds since midnight
+    /// by the line at that place of the tape, oldest 1, and until that time, in microseconds since midnight
     Protected { line: usize, until: u64 },
     Discretion,
 }
@@ -46,7 +46,7 @@ fn protection<T: Tape>(market: &Market<T>, row: &Row) -> Why
     }
 }
 
-// Why the order reaches as far as it does.
+/// Why the order reaches as far as it does.
 pub fn explain<T: Tape>(market: &Market<T>, row: &Row) -> Why
     ensures { why_as result ≡ why_of (market_of T.Tape market.now) (row_order row.now) }
 {

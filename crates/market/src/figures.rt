@@ -7,14 +7,14 @@ ghost use Rattle.tape.specs.declared.line.Line.{Line};
 use crate::table::{Table, rests_on, shares_on};
 use terms::{PerSide, Side};
 
-// The orders that rest on one side, and their shares.
+/// The orders that rest on one side, and their shares.
 #[derive(Clone, Copy, PartialEq, Eq, Debug, Drop)]
 pub struct Tally {
     pub orders: u64,
     pub shares: u64,
 }
 
-// The figures at the close.
+/// The figures at the close.
 pub type Figures = PerSide<Tally>;
 
 pub fn figures_of(table: &Table) -> Figures

@@ -1,4 +1,4 @@
-// The order table with a tape: who trades next, sweeps, protection periods, and what is told of them.
+//! The order table with a tape: who trades next, sweeps, protection periods, and what is told of them.
 #![tactic(auto)]
 
 mod explanation;

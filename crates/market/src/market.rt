@@ -1,4 +1,4 @@
-// The market as calls change it: an order swept in, rounds of sweeps, and the periods that end.
+//! The market as calls change it: an order swept in, rounds of sweeps, and the periods that end.
 ghost use Rattle.market.specs.Changes.{SameButShares};
 ghost use Rattle.market.specs.Joining.{CanJoin};
 ghost use Rattle.market.specs.Markets.{CanFollow, Follows, capacity_of, market_of};
@@ -16,16 +16,16 @@ use crate::table::{Row, Table};
 use tape::Tape;
 use terms::{Kind, Quote, Side};
 
-// What wakes the orders of a round: two named events, since whoever hands over a closure has to prove that it can be called.
+/// What wakes the orders of a round: two named events, since whoever hands over a closure has to prove that it can be called.
 #[derive(Clone, Copy, PartialEq, Eq, Debug, Drop)]
 pub(crate) enum Round {
-    // the side's protection period has ended: its QDP orders
+    /// the side's protection period has ended: its QDP orders
     PeriodEnded(Side),
-    // the quote is new: the orders whose price follows it
+    /// the quote is new: the orders whose price follows it
     QuoteChanged,
 }
 
-// The order table with the tape that its lines go on.
+/// The order table with the tape that its lines go on.
 #[derive(Drop)]
 pub struct Market<T: Tape> {
     pub table: Table,
@@ -42,8 +42,8 @@ impl<T: Tape> Market<T> {
         self.tape.write(line).unwrap();
     }
 
-    // The order as taker at the time, at its present reach, until it is filled or finds no partner. One that rests no more is passed
-    // over. Each line ends an order, so as many turns as orders rest are enough.
+    /// The order as taker at the time, at its present reach, until it is filled or finds no partner. One that rests no more is passed
+    /// over. Each line ends an order, so as many turns as orders rest are enough.
     pub(crate) fn sweep(&mut self, time: u64, taker: &Row)
         requires { CanFollow T.Tape self.old time (sweep_of time (row_order taker.now)) }
         ensures follows { Follows T.Tape self.old self.new (sweep_of time (row_order taker.now)) }
@@ -76,7 +76,7 @@ impl<T: Tape> Market<T> {
         }
     }
 
-    // Every order that the round wakes is swept, as they rest when it begins; one that has left before its turn is swept in vain.
+    /// Every order that the round wakes is swept, as they rest when it begins; one that has left before its turn is swept in vain.
     pub(crate) fn sweep_each(&mut self, time: u64, round: Round)
         requires { CanFollow T.Tape self.old time (λ market. sweep_each_of time (those (woken round) market.orders) market) }
         ensures { Follows T.Tape self.old self.new (λ market. sweep_each_of time (those (woken round) market.orders) market) }
@@ -88,7 +88,7 @@ impl<T: Tape> Market<T> {
         }
     }
 
-    // The order joins those that rest, and is swept, until it is filled or finds no partner. Its row stays, also with no shares left.
+    /// The order joins those that rest, and is swept, until it is filled or finds no partner. Its row stays, also with no shares left.
     pub fn sweep_in(&mut self, time: u64, row: Row)
         requires joins { CanJoin (rows_of self.old.table) row }
         requires follows { CanFollow T.Tape self.old time (swept_in time (row_order row)) }
@@ -117,7 +117,7 @@ impl Round {
 }
 
 impl<T: Tape> Market<T> {
-    // The quote is replaced, and every order that follows it is swept, lowest entry number first.
+    /// The quote is replaced, and every order that follows it is swept, lowest entry number first.
     pub fn requote(&mut self, time: u64, quote: Quote)
         requires { CanFollow T.Tape self.old time (requoted time quote.bid quote.offer) }
         ensures { Follows T.Tape self.old self.new (requoted time quote.bid quote.offer) }
@@ -126,7 +126,7 @@ impl<T: Tape> Market<T> {
         self.sweep_each(time, Round::QuoteChanged);
     }
 
-    // The period that ends first, if its end has come by the time; the buy side's where both end together.
+    /// The period that ends first, if its end has come by the time; the buy side's where both end together.
     pub(crate) fn due(&self, time: u64) -> Option<(Side, u64)>
         ensures { result ≡ due_of time (market_of T.Tape self.now) }
     {
@@ -148,8 +148,8 @@ impl<T: Tape> Market<T> {
         self.sweep_each(end, Round::PeriodEnded(side));
     }
 
-    // Every period that is due by the time has ended. A period that begins here ends an order, so two turns more than orders
-    // rest are enough.
+    /// Every period that is due by the time has ended. A period that begins here ends an order, so two turns more than orders
+    /// rest are enough.
     pub fn settle(&mut self, time: u64)
         requires { CanFollow T.Tape self.old time (settle_of time) }
         ensures follows { Follows T.Tape self.old self.new (settle_of time) }

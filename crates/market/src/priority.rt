@@ -19,7 +19,7 @@ pub(crate) fn opposite(side: Side) -> Side
     }
 }
 
-// An order of the side at price p meets or passes q.
+/// An order of the side at price p meets or passes q.
 pub(crate) fn meets(side: Side, p: u32, q: u32) -> bool
     ensures { result ≡ meets_of side p q }
 {
@@ -29,7 +29,7 @@ pub(crate) fn meets(side: Side, p: u32, q: u32) -> bool
     }
 }
 
-// For an order of the side, p is a better price to be ranked at than q.
+/// For an order of the side, p is a better price to be ranked at than q.
 pub(crate) fn outranks(side: Side, p: u32, q: u32) -> bool
     ensures { result ≡ outranks_of side p q }
 {
@@ -44,7 +44,7 @@ impl Table {
         row.terms.side == side && meets(side, self.reach(row), price)
     }
 
-    // The row's ranked price where it meets the taker's, else the taker's.
+    /// The row's ranked price where it meets the taker's, else the taker's.
     pub(crate) fn line_price(&self, price: u32, row: &Row) -> u32
         ensures { result ≡ line_price_of (seen self.now) price (row_order row.now) }
     {
@@ -87,7 +87,7 @@ impl Table {
             .goes_first(side, self.keys(price, other))
     }
 
-    // The next partner of the side for a taker at the price.
+    /// The next partner of the side for a taker at the price.
     pub(crate) fn next_partner(&self, side: Side, price: u32) -> Option<Row>
         ensures { option_map row_order result ≡ next_partner_of (seen self.now) side price (orders_of self.now) }
     {
@@ -102,7 +102,7 @@ impl Table {
             .copied()
     }
 
-    // The next partner for a taker at the price.
+    /// The next partner for a taker at the price.
     pub(crate) fn partner_for(&self, taker: &Row, price: u32) -> Option<Row>
         ensures { option_map row_order result ≡ partner_for_of (row_order taker.now) price (seen self.now) }
     {

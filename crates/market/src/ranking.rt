@@ -14,15 +14,15 @@ use crate::table::{Row, Table, rests_on};
 use rules::{Keys, class_of};
 use terms::Side;
 
-// One side of a table, as it is ranked.
+/// One side of a table, as it is ranked.
 #[derive(Clone, Copy, Drop)]
 pub(crate) struct Ranking<'a> {
     pub(crate) table: &'a Table,
     pub(crate) side: Side,
 }
 
-// An order at its place in rank: its entry number, the prices at which it ranks and up to which it trades, in half-cents,
-// and the shares left of it.
+/// An order at its place in rank: its entry number, the prices at which it ranks and up to which it trades, in half-cents,
+/// and the shares left of it.
 #[derive(Clone, Copy, PartialEq, Eq, Debug, Drop)]
 pub struct Standing {
     pub number: u32,
@@ -31,8 +31,8 @@ pub struct Standing {
     pub left: u32,
 }
 
-// The side is told by its code, 1 buy and 2 sell, and the best ranked order stands at place 1. None for any other code, and
-// for place 0 or one past the last.
+/// The side is told by its code, 1 buy and 2 sell, and the best ranked order stands at place 1. None for any other code, and
+/// for place 0 or one past the last.
 pub fn ask(table: &Table, code: u8, place: usize) -> Option<Standing>
     ensures { (lines : List Line) → Answered (market_with lines table.now) code place (option_map standing_as result) }
 {
@@ -95,7 +95,7 @@ impl Ranking<'_> {
             .copied()
     }
 
-    // The row at a place, the best ranked at 1. Ends where no row is next, however high the place.
+    /// The row at a place, the best ranked at 1. Ends where no row is next, however high the place.
     pub(crate) fn at(&self, place: usize) -> Option<Row>
         ensures { option_map row_order result ≡ at_place place (ranking_of (seen self.now.table.now) self.now.side (orders_of self.now.table.now)) }
     {

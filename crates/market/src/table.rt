@@ -1,4 +1,4 @@
-// The order table, with what the prices of its orders depend on.
+//! The order table, with what the prices of its orders depend on.
 ghost use Rattle.market.specs.Rows.{most_rows, rests, rests as rests_of, rising, row_order};
 ghost use Rattle.rules.specs.Sweep.{displayed as displayed_of, shows as shows_of};
 ghost use Rattle.std.specs.Prelude.{if◌then◌else◌, true, vec_capacity, vec_len, ◌&&◌, ◌≡◌, ◌≤◌};
@@ -8,7 +8,7 @@ use rules::MOST_RESTING;
 use std::alloc::{AllocError, Global};
 use terms::{Identifier, Kind, PerSide, Quote, Side, Terms, ranked_price, reach};
 
-// An order in the book; one that has no shares left rests no more.
+/// An order in the book; one that has no shares left rests no more.
 #[derive(Clone, Copy, Drop)]
 pub struct Row {
     pub identifier: Identifier,
@@ -17,14 +17,14 @@ pub struct Row {
     pub left: u32,
 }
 
-// The shares of the row that rest on the side.
+/// The shares of the row that rest on the side.
 pub(crate) fn shares_on(row: &Row, side: Side) -> u32
     ensures { result ≡ (if same_side row.now.terms.side side then row.now.left else 0) }
 {
     if row.terms.side == side { row.left } else { 0 }
 }
 
-// The row rests, on the side.
+/// The row rests, on the side.
 pub(crate) fn rests_on(row: &Row, side: Side) -> bool
     ensures { result ≡ (rests row.now && same_side row.now.terms.side side) }
 {
@@ -38,7 +38,7 @@ impl Row {
         matches!(self.terms.kind, Kind::DisplayedLimit | Kind::DisplayedMdo)
     }
 
-    // The order is displayed, and of the side.
+    /// The order is displayed, and of the side.
     pub(crate) fn shows(&self, side: Side) -> bool
         ensures { result ≡ shows_of side (row_order self.now) }
     {
@@ -52,8 +52,8 @@ impl Row {
     }
 }
 
-// Rows stand by ascending entry number: 64 may rest, and one more may stand while it is being entered. The ends are those of
-// the sides' protection periods, where they run.
+/// Rows stand by ascending entry number: 64 may rest, and one more may stand while it is being entered. The ends are those of
+/// the sides' protection periods, where they run.
 #[derive(Drop)]
 pub struct Table {
     pub(crate) rows: Vec<Row>,
@@ -64,7 +64,7 @@ pub struct Table {
     ghost ascending: { rising 0 rows.items ≡ true },
 }
 
-// How many rows stand at most: those that rest, and one that is being entered.
+/// How many rows stand at most: those that rest, and one that is being entered.
 pub(crate) const MOST_ROWS: usize = MOST_RESTING + 1;
 
 impl Table {
@@ -78,7 +78,7 @@ impl Table {
     ghost use Rattle.rules.specs.Market.{end_of, lower, period_runs as period_runs_of, ranked_in, reach_in, resting, with_end, with_orders, with_quote, without};
     ghost use Rattle.rules.specs.Runs.{opened};
 
-    // An empty table, with room for all rows that it will ever hold. Fails only for want of memory.
+    /// An empty table, with room for all rows that it will ever hold. Fails only for want of memory.
     pub fn open(heap: Global, quote: Quote) -> Result<Table, AllocError>
         ensures { IfOk result (λ table. (rows_of table ≡ []) × (quote_of table ≡ quote) × (seen table ≡ (opened quote.bid quote.offer).market)) }
     {
@@ -101,7 +101,7 @@ impl Table {
         self.quote = quote;
     }
 
-    // Sets or clears the end of the side's protection period.
+    /// Sets or clears the end of the side's protection period.
     pub(crate) fn set_end(&mut self, side: Side, end: Option<u64>)
         ensures market { Becomes self.old self.new (with_end side end) }
         ensures rows { self.new.rows ≡ self.old.rows }
@@ -115,56 +115,56 @@ impl Table {
         self.quote
     }
 
-    // When the side's protection period ends, where one runs.
+    /// When the side's protection period ends, where one runs.
     pub(crate) fn end(&self, side: Side) -> Option<u64>
         ensures { result ≡ end_of side (seen self.now) }
     {
         *self.ends.get(side)
     }
 
-    // Whether the side's protection period runs.
+    /// Whether the side's protection period runs.
     pub(crate) fn period_runs(&self, side: Side) -> bool
         ensures { result ≡ period_runs_of side (seen self.now) }
     {
         self.ends.get(side).is_some()
     }
 
-    // The price at which the row's order stands, in half-cents.
+    /// The price at which the row's order stands, in half-cents.
     pub fn ranked(&self, row: &Row) -> u32
         ensures { result ≡ ranked_in (seen self.now) (row_order row.now) }
     {
         ranked_price(row.terms, self.quote)
     }
 
-    // The price up to which it trades now, in half-cents.
+    /// The price up to which it trades now, in half-cents.
     pub fn reach(&self, row: &Row) -> u32
         ensures { result ≡ reach_in (seen self.now) (row_order row.now) }
     {
         reach(row.terms, self.period_runs(row.terms.side), self.quote)
     }
 
-    // How many rows stand, with shares left or without.
+    /// How many rows stand, with shares left or without.
     pub(crate) fn len(&self) -> usize
         ensures { result ≡ length (rows_of self.now) }
     {
         self.rows.len()
     }
 
-    // All rows, with shares left or without.
+    /// All rows, with shares left or without.
     pub fn rows(&self) -> &[Row]
         ensures { result.now ≡ rows_of self.now }
     {
         &self.rows
     }
 
-    // The row at an index, from 0.
+    /// The row at an index, from 0.
     pub(crate) fn row_at(&self, index: usize) -> Option<Row>
         ensures { MatchOption result (length (rows_of self.now) ≤ index) (λ row. (index < length (rows_of self.now)) × (row ≡ slice_index_or (rows_of self.now) index row)) }
     {
         self.rows.get(index).copied()
     }
 
-    // The index of the resting row with that entry number.
+    /// The index of the resting row with that entry number.
     pub(crate) fn index_of(&self, number: u32) -> Option<usize>
         ensures { MatchOption result
             (resting number (orders_of self.now) ≡ None)
@@ -175,7 +175,7 @@ impl Table {
             .position(|row| row.number == number && row.rests())
     }
 
-    // The resting row with that entry number.
+    /// The resting row with that entry number.
     pub fn row(&self, number: u32) -> Option<Row>
         ensures { option_map row_order result ≡ resting number (orders_of self.now) }
     {
@@ -183,14 +183,14 @@ impl Table {
         Some(self.rows[i])
     }
 
-    // How many orders rest.
+    /// How many orders rest.
     pub fn len_resting(&self) -> usize
         ensures { result ≡ length (orders_of self.now) }
     {
         self.rows.iter().filter(|row| row.rests()).count()
     }
 
-    // Adds a row behind the others.
+    /// Adds a row behind the others.
     pub(crate) fn join(&mut self, row: Row)
         requires { CanJoin (rows_of self.old) row }
         ensures rows { rows_of self.new ≡ rows_of self.old ++ (row ∷ []) }
@@ -199,7 +199,7 @@ impl Table {
         self.rows.push_reserved(row);
     }
 
-    // Drops the newest row, whether it rests or not; an empty table stays as it is.
+    /// Drops the newest row, whether it rests or not; an empty table stays as it is.
     pub fn drop_newest(&mut self)
         ensures rows { rows_of self.new ≡ take (length (rows_of self.old) - 1) (rows_of self.old) }
         ensures market { Becomes self.old self.new (λ market. with_orders (without (newest_number 0 (rows_of self.old)) market.orders) market) }
@@ -207,7 +207,7 @@ impl Table {
         self.rows.pop();
     }
 
-    // The resting order with that entry number has no shares left, so that it rests no more.
+    /// The resting order with that entry number has no shares left, so that it rests no more.
     pub fn leave(&mut self, number: u32)
         ensures orders { orders_of self.new ≡ without number (orders_of self.old) }
         ensures market { Becomes self.old self.new (λ market. with_orders (without number market.orders) market) }
@@ -219,7 +219,7 @@ impl Table {
         }
     }
 
-    // Lowers the resting order with that entry number; with no shares left it rests no more. No other row is touched.
+    /// Lowers the resting order with that entry number; with no shares left it rests no more. No other row is touched.
     pub(crate) fn lower(&mut self, number: u32, shares: u32)
         ensures orders { orders_of self.new ≡ lower number shares (orders_of self.old) }
         ensures market { Becomes self.old self.new (λ market. with_orders (lower number shares market.orders) market) }
@@ -238,7 +238,7 @@ impl Table {
         self.rows.iter().position(|row| !row.rests())
     }
 
-    // Drops the first row that rests no more and tells its identifier; where every row rests, nothing changes.
+    /// Drops the first row that rests no more and tells its identifier; where every row rests, nothing changes.
     pub fn retire(&mut self) -> Option<Identifier>
         ensures orders { orders_of self.new ≡ orders_of self.old }
         ensures market { Becomes self.old self.new (λ market. market) }

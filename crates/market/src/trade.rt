@@ -1,4 +1,4 @@
-// One line: what is displayed before and after it, and what it leaves.
+//! One line: what is displayed before and after it, and what it leaves.
 ghost use Rattle.market.specs.Changes.{SameButShares};
 ghost use Rattle.market.specs.Displays.{shares_there as shares_there_of};
 ghost use Rattle.market.specs.Rows.{row_order};
@@ -16,7 +16,7 @@ use rules::{PROTECTION_PERIOD, ROUND_LOT};
 use tape::{Line, Mark};
 use terms::Side;
 
-// The mark of a line that depletes the side. A function, since neither type is of this crate.
+/// The mark of a line that depletes the side. A function, since neither type is of this crate.
 pub(crate) fn mark_of(side: Side) -> Mark
     ensures { result ≡ side_mark side }
 {
@@ -54,7 +54,7 @@ impl Table {
         mark_of(side)
     }
 
-    // One line at the time, for a taker at the price; the line is handed back for the tape.
+    /// One line at the time, for a taker at the price; the line is handed back for the tape.
     pub(crate) fn trade(&mut self, time: u64, price: u32, taker: &Row, partner: &Row) -> Line
         requires { time ≤ last_moment }
         ensures market { (lines : List TradeLine) → market_with (lines ++ (result ∷ [])) self.new ≡ trade_of time price (row_order taker.now) (row_order partner.now) (market_with lines self.old) }
@@ -77,7 +77,7 @@ impl Table {
 }
 
 impl Table {
-    // No displayed order of the side ranks better than the price.
+    /// No displayed order of the side ranks better than the price.
     pub(crate) fn is_best_displayed(&self, side: Side, price: u32) -> bool
         ensures { result ≡ best_displayed (seen self.now) side price (orders_of self.now) }
     {
@@ -97,7 +97,7 @@ impl Table {
         }
     }
 
-    // The displayed shares of the side at the price.
+    /// The displayed shares of the side at the price.
     pub(crate) fn displayed_shares(&self, side: Side, price: u32) -> u64
         ensures { result ≡ displayed_shares_of (seen self.now) side price (orders_of self.now) }
     {

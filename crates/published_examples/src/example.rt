@@ -1,4 +1,4 @@
-// A worked example that was published: what it says, the calls that it makes, and what came of them here.
+//! A worked example that was published: what it says, the calls that it makes, and what came of them here.
 ghost use Rattle.std.specs.Prelude.{◌≡◌, string_bytes, Decides};
 
 use anyhow::{Context, bail};
@@ -22,7 +22,7 @@ const MAKES: Makes = Makes {
     tape: TapeMake::Bytes,
 };
 
-// An example, as its file has it: `says` is what is published of it, `differs` what our rules give in its place.
+/// An example, as its file has it: `says` is what is published of it, `differs` what our rules give in its place.
 #[derive(Drop)]
 pub struct Example<'a> {
     pub name: &'a str,
@@ -32,7 +32,7 @@ pub struct Example<'a> {
     pub calls: Vec<Call<'a>>,
 }
 
-// A call on the book, the number of its line, and the lines expected in answer, each with its line feed.
+/// A call on the book, the number of its line, and the lines expected in answer, each with its line feed.
 #[derive(Drop)]
 pub struct Call<'a> {
     pub line: u64,
@@ -123,7 +123,7 @@ impl Serve for Playing<'_> {
 }
 
 impl Example<'_> {
-    // Makes the calls on a new book: what comes of each.
+    /// Makes the calls on a new book: what comes of each.
     pub fn play(&self, heap: Global) -> anyhow::Result<Vec<Output>> {
         MAKES.serve(
             heap,
@@ -136,8 +136,8 @@ impl Example<'_> {
         )?
     }
 
-    // Prints what is published, what our rules give in its place, and of each call what was expected and what came. True where all
-    // that came was expected, and nothing else.
+    /// Prints what is published, what our rules give in its place, and of each call what was expected and what came. True where all
+    /// that came was expected, and nothing else.
     pub fn print(&self, rt: &HostRuntime, came: &[Output]) -> anyhow::Result<bool> {
         let name = self.name;
         println!(rt; "\n{name}")?;

@@ -1,5 +1,5 @@
-// Runs the published worked examples, read from standard input, each on a new book, and compares what comes with what is
-// expected. The status is 0 where all agree, 1 where one does not, and 2 where the input is bad.
+//! Runs the published worked examples, read from standard input, each on a new book, and compares what comes with what is
+//! expected. The status is 0 where all agree, 1 where one does not, and 2 where the input is bad.
 #![tactic(auto)]
 
 ghost use Rattle.std.specs.Prelude.{◌≡◌, ◌≤◌, Decides};
@@ -13,7 +13,7 @@ use anyhow::bail;
 use std::process::ExitCode;
 use std::{env, io};
 
-// How many examples were run, how many agree, and in how many our rules give something else than what is published.
+/// How many examples were run, how many agree, and in how many our rules give something else than what is published.
 #[derive(Clone, Copy, Default, Drop)]
 pub struct Count {
     pub run: u64,
@@ -22,7 +22,7 @@ pub struct Count {
 }
 
 impl Count {
-    // No more agree than were run.
+    /// No more agree than were run.
     pub fn add(&mut self, agrees: bool, differs: bool)
         ensures { self.old.agree ≤ self.old.run → self.new.agree ≤ self.new.run }
     {

@@ -1,4 +1,4 @@
-// Reads examples, line by line.
+//! Reads examples, line by line.
 ghost use Rattle.std.specs.Prelude.{◌≡◌, ◌∷◌, ◌++◌, ◌<◌, ◌≤◌, length, IfOk, MatchOption, OnSome};
 
 use crate::example::{Call, Example};
@@ -6,7 +6,7 @@ use anyhow::{Context, anyhow};
 use std::alloc::{AllocError, Global};
 use terms::Quote;
 
-// What is left of the file, and the number of its next line. Each line ends with a line feed.
+/// What is left of the file, and the number of its next line. Each line ends with a line feed.
 #[derive(Clone, Copy, Drop)]
 pub struct Reader<'a> {
     rest: &'a str,
@@ -112,7 +112,7 @@ impl<'a> Reader<'a> {
         }
     }
 
-    // None at the end of the file.
+    /// None at the end of the file.
     pub fn example(&mut self, heap: Global) -> anyhow::Result<Option<Example<'a>>>
         ensures { IfOk result (λ o. OnSome o (length self.new.rest.now < length self.old.rest.now)) }
     {

@@ -1,4 +1,4 @@
-// How far a buffer is written, and an order that is begun in it: unless it is finished, the mark goes back to where it began.
+//! How far a buffer is written, and an order that is begun in it: unless it is finished, the mark goes back to where it began.
 ghost use Rattle.std.specs.Prelude.{◌-◌, ◌≡◌};
 ghost use Rattle.register.specs.Filling.{fits, room, with_field};
 ghost use Rattle.register.specs.Refusal.{done_if};
@@ -7,7 +7,7 @@ ghost use Rattle.register.specs.Writers.{SameGuard, begun_page};
 use crate::field::HEAD_BYTES;
 use crate::writer::NoRoom;
 
-// The bytes below the mark are written.
+/// The bytes below the mark are written.
 #[derive(Clone, Copy, PartialEq, Eq, Debug, Drop)]
 pub(crate) struct Fill {
     pub mark: usize,
@@ -47,7 +47,7 @@ impl<'a, 'b> Begun<'a, 'b> {
         }
     }
 
-    // The mark stays where it has come to.
+    /// The mark stays where it has come to.
     pub fn finish(self)
         ensures buffer { self.exit.0.now ≡ self.entry.buffer.now }
         ensures fill { self.exit.1.0.now ≡ self.entry.fill.now }
@@ -59,7 +59,7 @@ impl<'a, 'b> Begun<'a, 'b> {
         } = self;
     }
 
-    // Puts a field at the mark, or nothing where it does not fit whole.
+    /// Puts a field at the mark, or nothing where it does not fit whole.
     pub fn put(&mut self, tag: u8, value: &[u8]) -> Result<(), NoRoom>
         ensures page { begun_page self.new ≡ with_field (begun_page self.old) (record { tag = tag; value = value.now }) }
         ensures outcome { result ≡ done_if (fits (room (begun_page self.old)) (record { tag = tag; value = value.now })) self.old.start.mark }

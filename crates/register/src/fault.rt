@@ -1,4 +1,4 @@
-// What is wrong in a register, and how it is told.
+//! What is wrong in a register, and how it is told.
 ghost use Rattle.std.specs.Prelude.{Some, ◌≡◌};
 ghost use Rattle.register.specs.Faults.{fault_layer, fault_number, fault_place, fault_text, fault_words};
 ghost use Rattle.register.specs.Reports.{report_text};
@@ -7,18 +7,18 @@ use std::error::Error;
 use std::fmt;
 use terms::{Refusal, Ticket};
 
-// Each fault holds its place, counted from 0: of the field's first byte, or of the order's.
+/// Each fault holds its place, counted from 0: of the field's first byte, or of the order's.
 #[derive(Clone, Copy, PartialEq, Eq, Debug, Drop)]
 pub enum Fault {
-    // the register ends before a field does: the place where the field begins
+    /// the register ends before a field does: the place where the field begins
     CutShort(usize),
-    // a tag, a length or a short name is wrong, or a written offset is 0: the order's place
+    /// a tag, a length or a short name is wrong, or a written offset is 0: the order's place
     Malformed(usize),
-    // the order's ticket is refused: the order's place
+    /// the order's ticket is refused: the order's place
     Ticket(Refusal, usize),
 }
 
-// What is told of a fault: number, layer (1 field, 2 order, 3 ticket, 4 book), place and words.
+/// What is told of a fault: number, layer (1 field, 2 order, 3 ticket, 4 book), place and words.
 #[derive(Clone, Copy, Drop)]
 pub struct Report {
     pub number: u8,

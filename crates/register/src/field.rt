@@ -1,9 +1,9 @@
-// A field in bytes: a tag, the length of its value in two bytes, and the value.
+//! A field in bytes: a tag, the length of its value in two bytes, and the value.
 ghost use Rattle.std.specs.Prelude.{◌≡◌};
 ghost use Rattle.register.specs.Parts.{taken_of};
 ghost use Rattle.register.specs.Reading.{take_field as take_field_of};
 
-// The tags.
+/// The tags.
 pub(crate) const IDENTIFIER: u8 = 1;
 
 pub(crate) const CODES: u8 = 2;
@@ -16,10 +16,10 @@ pub(crate) const OFFSET: u8 = 5;
 
 pub(crate) const SHORT_NAME: u8 = 6;
 
-// How many bytes stand before a value.
+/// How many bytes stand before a value.
 pub(crate) const HEAD_BYTES: usize = 3;
 
-// A field taken off the front of some bytes; value and rest are parts of them.
+/// A field taken off the front of some bytes; value and rest are parts of them.
 #[derive(Clone, Copy, Drop)]
 pub(crate) struct Field<'a> {
     pub tag: u8,

@@ -1,4 +1,4 @@
-// The order register, both ways: its layout, its reader and its writer.
+//! The order register, both ways: its layout, its reader and its writer.
 #![tactic(auto)]
 
 mod begun;

@@ -1,4 +1,4 @@
-// Reading an order, field by field.
+//! Reading an order, field by field.
 ghost use Rattle.std.specs.Prelude.{IfOk, length, ◌+◌, ◌<◌, ◌≡◌, ◌≤◌};
 ghost use Rattle.std.specs.Str.{bytes_eq};
 ghost use Rattle.register.specs.Layout.{blank, head_size, named, offset_field, short_name as short_name_of, short_name_field, ticket_layout};
@@ -124,7 +124,7 @@ impl Place {
     }
 }
 
-// The order at the front of `rest`, which ends a register of `total` bytes: identifier, ticket, and what follows.
+/// The order at the front of `rest`, which ends a register of `total` bytes: identifier, ticket, and what follows.
 pub(crate) fn read_order(total: usize, rest: &[u8]) -> Result<(&[u8], Draft, &[u8]), Fault>
     ensures order { order_read result ≡ read_order_of total rest.now }
     ensures part { IfOk result (λ x. StandsAt rest.now head_size x.0.now × (head_size + length x.0.now ≤ length rest.now)) }

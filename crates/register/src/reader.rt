@@ -1,4 +1,4 @@
-// Orders as a register lists them, and a reader over the register's own bytes.
+//! Orders as a register lists them, and a reader over the register's own bytes.
 ghost use Rattle.register.specs.Tails.{Tail};
 
 use crate::fault::Fault;
@@ -6,14 +6,14 @@ use crate::field::HEAD_BYTES;
 use crate::place::read_order;
 use terms::{Draft, Ticket};
 
-// A part of the register, and the place of its first byte, counted from 0.
+/// A part of the register, and the place of its first byte, counted from 0.
 #[derive(Clone, Copy, Drop)]
 pub struct Part<'a> {
     pub bytes: &'a [u8],
     pub place: usize,
 }
 
-// An order: the place of its first byte, counted from 0, its identifier, and its ticket in numbers.
+/// An order: the place of its first byte, counted from 0, its identifier, and its ticket in numbers.
 #[derive(Clone, Copy, Drop)]
 pub struct Listed<'a> {
     pub place: usize,
@@ -21,7 +21,7 @@ pub struct Listed<'a> {
     pub draft: Draft,
 }
 
-// What is left to read is always the end of the register, so that a place can be told of it.
+/// What is left to read is always the end of the register, so that a place can be told of it.
 #[derive(Drop)]
 pub struct Reader<'a> {
     register: &'a [u8],
@@ -33,7 +33,7 @@ impl Listed<'_> {
     ghost use Rattle.std.specs.Prelude.{◌≡◌};
     ghost use Rattle.register.specs.Faults.{listed_ticket, ticket_or_fault};
 
-    // A ticket that is refused is a fault of layer 3, at the order's place.
+    /// A ticket that is refused is a fault of layer 3, at the order's place.
     pub fn ticket(&self) -> Result<Ticket, Fault>
         ensures { ticket_or_fault result ≡ listed_ticket self.now.place self.now.draft }
     {
@@ -58,7 +58,7 @@ impl<'a> Reader<'a> {
         }
     }
 
-    // The next order, or the fault that ends the reading; nothing at the register's end.
+    /// The next order, or the fault that ends the reading; nothing at the register's end.
     pub fn next_order(&mut self) -> Option<Result<Listed<'a>, Fault>>
         ensures order { next_read result (rest_of self.new) ≡ read_next (length (register_of self.old)) (rest_of self.old) }
         ensures register { register_of self.new ≡ register_of self.old }

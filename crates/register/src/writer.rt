@@ -1,4 +1,4 @@
-// A writer over a buffer that its maker lends it.
+//! A writer over a buffer that its maker lends it.
 ghost use Rattle.std.specs.Prelude.{List, Some, [], ◌++◌, ◌-◌, ◌∷◌, ◌≡◌};
 ghost use Rattle.register.specs.Filling.{fresh, order_fits, room, whole_orders, with_order};
 ghost use Rattle.register.specs.Layout.{Listed, codes_of};
@@ -16,7 +16,7 @@ use std::error::Error;
 use std::fmt;
 use terms::Terms;
 
-// A field does not fit; `place` is where its order would begin, counted from 0.
+/// A field does not fit; `place` is where its order would begin, counted from 0.
 #[derive(Clone, Copy, PartialEq, Eq, Debug, Drop)]
 pub struct NoRoom {
     pub place: usize,
@@ -30,7 +30,7 @@ pub struct Writer<'a> {
 
 // That the buffer is still the lender's own is said of each call, since a type speaks of one moment only.
 impl<'a> Writer<'a> {
-    // Nothing is written yet; what the buffer held counts for nothing.
+    /// Nothing is written yet; what the buffer held counts for nothing.
     pub fn new(buffer: &'a mut [u8]) -> Writer<'a>
         ensures page { page_of result ≡ fresh buffer.old }
         ensures lent { lender result ≡ buffer.entry.ghost_name }
@@ -42,14 +42,14 @@ impl<'a> Writer<'a> {
         }
     }
 
-    // How many bytes are written.
+    /// How many bytes are written.
     pub fn mark(&self) -> usize
         ensures { result ≡ (page_of self.now).mark }
     {
         self.fill.mark
     }
 
-    // Writes an order with the shares that are left. Where a field does not fit whole, nothing counts as written.
+    /// Writes an order with the shares that are left. Where a field does not fit whole, nothing counts as written.
     pub fn write_order(&mut self, identifier: &[u8], terms: &Terms, left: u32) -> Result<(), NoRoom>
         ensures page { page_of self.new ≡ with_order (page_of self.old) (order_of identifier.now (terms_of terms.now) left) }
         ensures outcome { result ≡ done_if (order_fits (room (page_of self.old)) (order_of identifier.now (terms_of terms.now) left)) (page_of self.old).mark }
@@ -71,7 +71,7 @@ impl<'a> Writer<'a> {
     }
 }
 
-// Side, kind, time in force and QDP, one byte each.
+/// Side, kind, time in force and QDP, one byte each.
 pub(crate) fn codes(terms: &Terms) -> [u8; 4]
     ensures { result ≡ codes_of (draft_of (terms_of terms.now) terms.now.shares) }
 {
@@ -83,7 +83,7 @@ pub(crate) fn codes(terms: &Terms) -> [u8; 4]
     ]
 }
 
-// The offset in two's complement.
+/// The offset in two's complement.
 pub(crate) fn offset_bytes(terms: &Terms) -> [u8; 2]
     ensures { result ≡ signed_bytes terms.now.offset }
 {

@@ -1,5 +1,3 @@
-// A day file as a list of calls. Questions alter nothing and are passed over, and so is what makes no call: a ticket or a quote
-// that is refused. A register that is loaded stands as the entries that it makes.
 use anyhow::Context;
 use book::{Answer, Call};
 use day_file::{Command, Frame, SLIP_PLACES};
@@ -8,17 +6,19 @@ use std::alloc::{AllocError, Global};
 use std::fs;
 use terms::{Quote, Ticket};
 
+/// A day file as a list of calls. Questions alter nothing and are passed over, and so is what makes no call: a ticket or a quote
+/// that is refused. A register that is loaded stands as the entries that it makes.
 #[derive(Drop)]
 pub struct Day {
     pub quote: Quote,
-    // how many lines the tape has room for
+    /// how many lines the tape has room for
     pub lines: usize,
     pub calls: Vec<Call>,
     pub loads: Vec<Load>,
 }
 
-// A load of the day: where its entries stand in the list of calls, from begin to before end, and how many tickets are refused,
-// which make no call.
+/// A load of the day: where its entries stand in the list of calls, from begin to before end, and how many tickets are refused,
+/// which make no call.
 #[derive(Clone, Copy, Drop)]
 pub struct Load {
     pub begin: usize,
@@ -27,7 +27,7 @@ pub struct Load {
 }
 
 impl Load {
-    // Each ticket and each entry that is refused takes a place. One slip more stops the load, and no order behind it is entered.
+    /// Each ticket and each entry that is refused takes a place. One slip more stops the load, and no order behind it is entered.
     pub fn runs_out(&self, answers: &[Answer]) -> bool {
         let own = answers.get(self.begin..self.end).unwrap_or(&[]);
         let refused_entries = own
@@ -92,7 +92,7 @@ fn add(heap: Global, command: &Command, calls: &mut Vec<Call>) -> Result<(), All
     Ok(())
 }
 
-// The lines up to the close or the end. None where there is no book: no command opens one, or its quote is not lawful.
+/// The lines up to the close or the end. None where there is no book: no command opens one, or its quote is not lawful.
 pub fn read_day(rt: &HostRuntime, text: &[u8]) -> anyhow::Result<Option<Day>> {
     let heap = rt.alloc();
     let mut frame = Frame::default();

@@ -1,4 +1,4 @@
-// Other lists with the same calls but for ticks.
+//! Other lists with the same calls but for ticks.
 use book::Call;
 use rules::LAST_MOMENT;
 use std::alloc::{AllocError, Global};
@@ -7,7 +7,7 @@ fn is_tick_of_day(call: &Call) -> bool {
     call.is_tick() && call.time() <= LAST_MOMENT
 }
 
-// The latest time of the day that a call has.
+/// The latest time of the day that a call has.
 pub fn latest(calls: &[Call]) -> u64 {
     calls
         .iter()
@@ -31,8 +31,8 @@ fn earliest_to_come(heap: Global, calls: &[Call]) -> Result<Vec<u64>, AllocError
     Ok(times)
 }
 
-// The shared calls, with a tick at each of the ends, in ascending order, before the first shared call that is not earlier, but
-// none that is later than a shared call to come; and a last tick.
+/// The shared calls, with a tick at each of the ends, in ascending order, before the first shared call that is not earlier, but
+/// none that is later than a shared call to come; and a last tick.
 pub fn with_ticks(
     heap: Global,
     calls: &[Call],
@@ -60,8 +60,8 @@ pub fn with_ticks(
     Ok(list)
 }
 
-// The premise of the law that depends on the calls alone: the first tick that is later than a shared call after it. A tick past
-// the day's last moment is refused and changes nothing, so that it may stand anywhere.
+/// The premise of the law that depends on the calls alone: the first tick that is later than a shared call after it. A tick past
+/// the day's last moment is refused and changes nothing, so that it may stand anywhere.
 pub fn tick_too_late(heap: Global, calls: &[Call]) -> Result<Option<u64>, AllocError> {
     let to_come = earliest_to_come(heap, calls)?;
     let late = calls.iter().zip(to_come.iter()).find(|(call, earliest)| is_tick_of_day(call)

@@ -1,5 +1,5 @@
-// Replays a day file from standard input twice: as it is against the same calls without ticks, and against the same calls with
-// ticks at every protection period's end, on other makes.
+//! Replays a day file from standard input twice: as it is against the same calls without ticks, and against the same calls with
+//! ticks at every protection period's end, on other makes.
 #![tactic(auto)]
 
 mod day;

@@ -1,4 +1,4 @@
-// What the arguments ask for.
+//! What the arguments ask for.
 use anyhow::bail;
 
 pub const HELP: &str = "\

@@ -1,4 +1,3 @@
-// What comes of holding two runs against each other.
 use crate::day::{Day, Load};
 use anyhow::bail;
 use book::{Answer, Book, Call, Played, rerun};
@@ -10,14 +9,15 @@ use std::fmt;
 use std::process::ExitCode;
 use tape::{ByteTape, Mark, RecordTape, Tape};
 
+/// What comes of holding two runs against each other.
 #[derive(Drop)]
 pub struct Verdict {
-    // the ends of the protection periods that began in the first run
+    /// the ends of the protection periods that began in the first run
     pub ends: Vec<u64>,
     pub finding: Finding,
 }
 
-// Of two, the later one here tells more.
+/// Of two, the later one here tells more.
 #[derive(Clone, Copy, PartialEq, Eq, PartialOrd, Ord, Debug, Drop)]
 pub enum Finding {
     Alike(Alike),
@@ -25,14 +25,14 @@ pub enum Finding {
     Differ(Difference),
 }
 
-// How many calls that are no ticks were answered alike, and how many trades are on both tapes.
+/// How many calls that are no ticks were answered alike, and how many trades are on both tapes.
 #[derive(Clone, Copy, PartialEq, Eq, PartialOrd, Ord, Debug, Drop)]
 pub struct Alike {
     pub calls: usize,
     pub trades: usize,
 }
 
-// In the order in which they are looked for; the places count calls that are no ticks, or lines of the tape, from 1.
+/// In the order in which they are looked for; the places count calls that are no ticks, or lines of the tape, from 1.
 #[derive(Clone, Copy, PartialEq, Eq, PartialOrd, Ord, Debug, Drop)]
 pub enum Difference {
     Answer(usize),
@@ -40,7 +40,7 @@ pub enum Difference {
     Books,
 }
 
-// Why the law does not speak of a day.
+/// Why the law does not speak of a day.
 #[derive(Clone, Copy, PartialEq, Eq, PartialOrd, Ord, Debug, Drop)]
 pub enum Silence {
     LateTick(u64),
@@ -162,8 +162,8 @@ impl Finding {
 }
 
 impl Verdict {
-    // The day as it is on rows and records, the other list on a hashed directory and bytes. The rooms stand here, where the tapes
-    // that borrow them are made.
+    /// The day as it is on rows and records, the other list on a hashed directory and bytes. The rooms stand here, where the tapes
+    /// that borrow them are made.
     pub fn of(heap: Global, day: &Day, other_calls: &[Call]) -> anyhow::Result<Verdict> {
         let calls = day.calls.as_slice();
         let mut records = record_room(heap, day.lines)?;

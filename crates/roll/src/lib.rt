@@ -1,4 +1,4 @@
-// An append-only log over memory lent by the caller, for any kind of record.
+//! An append-only log over memory lent by the caller, for any kind of record.
 #![tactic(auto)]
 
 ghost use Rattle.std.specs.Prelude.{length, slice_set, ◌≡◌, ◌≤◌};
@@ -6,7 +6,7 @@ ghost use Rattle.std.specs.Prelude.{length, slice_set, ◌≡◌, ◌≤◌};
 use std::error::Error;
 use std::fmt;
 
-// A roll keeps records, the oldest first, in a slice that its maker lends it.
+/// A roll keeps records, the oldest first, in a slice that its maker lends it.
 #[derive(Drop)]
 pub struct Roll<'a, T> {
     room: &'a mut [T],
@@ -14,7 +14,7 @@ pub struct Roll<'a, T> {
     ghost within: { used ≤ length room.now },
 }
 
-// A record that found no free place.
+/// A record that found no free place.
 #[derive(Clone, Copy, PartialEq, Eq, Debug, Drop)]
 pub struct Full<T> {
     pub item: T,
@@ -24,7 +24,7 @@ impl<'a, T: Copy> Roll<'a, T> {
     ghost use Rattle.std.specs.Prelude.{MatchResult, [], ◌++◌, ◌+◌, ◌∷◌};
     ghost use Rattle.roll.specs.Rolls.{records, room_left, places, lender, at_place};
 
-    // An empty roll; what the slice held counts for nothing.
+    /// An empty roll; what the slice held counts for nothing.
     pub fn new(room: &'a mut [T]) -> Roll<'a, T>
         ensures empty { records result ≡ [] }
         ensures free { room_left result ≡ length room.old }
@@ -33,21 +33,21 @@ impl<'a, T: Copy> Roll<'a, T> {
         Roll { room, used: 0 }
     }
 
-    // How many records stand on the roll.
+    /// How many records stand on the roll.
     pub fn len(&self) -> usize
         ensures { result ≡ length (records self.now) }
     {
         self.as_slice().len()
     }
 
-    // How many more it has room for.
+    /// How many more it has room for.
     pub fn free(&self) -> usize
         ensures { result ≡ room_left self.now }
     {
         self.room.len() - self.used
     }
 
-    // Adds a record at the end. A full roll hands it back and stays as it is.
+    /// Adds a record at the end. A full roll hands it back and stays as it is.
     pub fn push(&mut self, item: T) -> Result<(), Full<T>>
         ensures pushed { MatchResult result
             (λ _. (records self.new ≡ records self.old ++ item ∷ []) × (room_left self.new + 1 ≡ room_left self.old))
@@ -64,14 +64,14 @@ impl<'a, T: Copy> Roll<'a, T> {
         Ok(())
     }
 
-    // The records, oldest first.
+    /// The records, oldest first.
     pub fn as_slice(&self) -> &[T]
         ensures { result.now ≡ records self.now }
     {
         &self.room[..self.used]
     }
 
-    // The record at a place; the oldest stands at place 1.
+    /// The record at a place; the oldest stands at place 1.
     pub fn get(&self, place: usize) -> Option<T>
         ensures { result ≡ at_place (records self.now) place }
     {

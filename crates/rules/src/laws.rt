@@ -1,4 +1,4 @@
-// Each carries a law on its contract; nothing calls them.
+//! Each carries a law on its contract; nothing calls them.
 ghost use Rattle.std.specs.Prelude.{min, nat_le, nat_lt, ◌≡◌};
 ghost use Rattle.rules.specs.Finished.{NothingDue};
 ghost use Rattle.rules.specs.Growth.{TapeOnlyGrows};
@@ -8,7 +8,7 @@ ghost use Rattle.rules.specs.Trades.{LinesTellTrades};
 
 use crate::limits::{FEWEST_LEFT, LAST_MOMENT, MOST_ENTRIES, MOST_RESTING, PROTECTION_PERIOD};
 
-// The last moment of the day; until then it does not matter when the book is ticked.
+/// The last moment of the day; until then it does not matter when the book is ticked.
 pub fn ticks_change_only_the_clock() -> u64
     ensures day { result ≡ last_moment }
     ensures ticks { TicksChangeOnlyTheClock }
@@ -16,14 +16,14 @@ pub fn ticks_change_only_the_clock() -> u64
     LAST_MOMENT
 }
 
-// The time to settle to in place of two times, one after the other.
+/// The time to settle to in place of two times, one after the other.
 pub fn settles_at_once(earlier: u64, later: u64) -> u64
     ensures { SettlesAtOnce earlier later result }
 {
     earlier.max(later)
 }
 
-// How long a side is protected after a depletion; the tape tells which orders that restrains, and why.
+/// How long a side is protected after a depletion; the tape tells which orders that restrains, and why.
 pub fn tape_explains_discretion() -> u64
     ensures period { result ≡ protection_period }
     ensures discretion { TapeExplainsDiscretion }
@@ -32,7 +32,7 @@ pub fn tape_explains_discretion() -> u64
     PROTECTION_PERIOD
 }
 
-// Whether a period that ends then still runs at the clock. After every call none is left that has come to its end.
+/// Whether a period that ends then still runs at the clock. After every call none is left that has come to its end.
 pub fn nothing_is_due(end: u64, clock: u64) -> bool
     ensures runs { result ≡ nat_lt clock end }
     ensures due { NothingDue }
@@ -40,7 +40,7 @@ pub fn nothing_is_due(end: u64, clock: u64) -> bool
     clock < end
 }
 
-// Whether a buy and a sell that reach so far can rest together.
+/// Whether a buy and a sell that reach so far can rest together.
 pub fn never_crossed(buy_reach: u32, sell_reach: u32) -> bool
     ensures apart { result ≡ nat_lt buy_reach sell_reach }
     ensures never { NeverCrossed }
@@ -48,8 +48,8 @@ pub fn never_crossed(buy_reach: u32, sell_reach: u32) -> bool
     buy_reach < sell_reach
 }
 
-// Whether so many free lines are enough for a call that finds so many orders resting. No call takes a line back, and none writes
-// more lines than orders rest.
+/// Whether so many free lines are enough for a call that finds so many orders resting. No call takes a line back, and none writes
+/// more lines than orders rest.
 pub fn lines_within_orders(resting: usize, free: usize) -> bool
     ensures enough { result ≡ nat_le resting free }
     ensures grows { TapeOnlyGrows }
@@ -57,8 +57,8 @@ pub fn lines_within_orders(resting: usize, free: usize) -> bool
     resting <= free
 }
 
-// How many shares a line tells, where so many are left of its taker and its partner. Each line of a tape tells the trade that
-// was due when it was made.
+/// How many shares a line tells, where so many are left of its taker and its partner. Each line of a tape tells the trade that
+/// was due when it was made.
 pub fn lines_tell_trades(taker_left: u32, partner_left: u32) -> u32
     ensures shares { result ≡ min partner_left taker_left }
     ensures trades { LinesTellTrades }
@@ -66,7 +66,7 @@ pub fn lines_tell_trades(taker_left: u32, partner_left: u32) -> u32
     partner_left.min(taker_left)
 }
 
-// The highest entry number. Accepted entries have the numbers from 1 on, without a gap, and stand in the book in that order.
+/// The highest entry number. Accepted entries have the numbers from 1 on, without a gap, and stand in the book in that order.
 pub fn entries_are_numbered() -> u32
     ensures most { result ≡ most_entries }
     ensures counted { EntriesCounted }
@@ -76,7 +76,7 @@ pub fn entries_are_numbered() -> u32
     MOST_ENTRIES
 }
 
-// How many orders can rest.
+/// How many orders can rest.
 pub fn orders_within_places() -> usize
     ensures most { result ≡ most_resting }
     ensures within { OrdersWithinPlaces }
@@ -84,7 +84,7 @@ pub fn orders_within_places() -> usize
     MOST_RESTING
 }
 
-// The fewest shares that a resting order has left.
+/// The fewest shares that a resting order has left.
 pub fn shares_remain() -> u32
     ensures fewest { result ≡ fewest_left }
     ensures remain { SharesRemain }

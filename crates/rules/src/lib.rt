@@ -1,5 +1,5 @@
-// The rule book: what a book does with each call, as definitions in specs/, and the laws that hold of them.
-// Each law stands in the contract of a function, mostly one that tells a number of the rule.
+//! The rule book: what a book does with each call, as definitions in specs/, and the laws that hold of them.
+//! Each law stands in the contract of a function, mostly one that tells a number of the rule.
 #![tactic(auto)]
 
 mod laws;

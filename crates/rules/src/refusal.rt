@@ -1,4 +1,4 @@
-// Why a call of the book is refused, and what that leaves.
+//! Why a call of the book is refused, and what that leaves.
 ghost use Rattle.std.specs.Fmt.{padded};
 ghost use Rattle.std.specs.Prelude.{Some, ◌≡◌};
 ghost use Rattle.rules.specs.Laws.{after_clock, RefusalLeaves};
@@ -8,7 +8,7 @@ ghost use Rattle.rules.specs.Words.{refusal_words};
 use std::error::Error;
 use std::fmt;
 
-// Of these the first that holds is told.
+/// Of these the first that holds is told.
 #[derive(Clone, Copy, PartialEq, Eq, PartialOrd, Ord, Debug, Drop)]
 pub enum Refusal {
     Identifier = 7,
@@ -21,14 +21,14 @@ pub enum Refusal {
 }
 
 impl Refusal {
-    // The number that it is told by, 7 to 13.
+    /// The number that it is told by, 7 to 13.
     pub fn number(self) -> u8
         ensures { result ≡ refusal_number self }
     {
         self as u8
     }
 
-    // Static, since the report of a fault keeps these words.
+    /// Static, since the report of a fault keeps these words.
     pub fn words(self) -> &'static str
         ensures { result.now ≡ refusal_words self }
     {
@@ -43,7 +43,7 @@ impl Refusal {
         }
     }
 
-    // Whether the clock is at the call's time by then: the book is left as a tick leaves it, or else as it was.
+    /// Whether the clock is at the call's time by then: the book is left as a tick leaves it, or else as it was.
     pub fn moves_clock(self) -> bool
         ensures told { result ≡ after_clock self }
         ensures leaves { RefusalLeaves self result }

@@ -1,4 +1,4 @@
-// The morning sheet: the orders of a register, with the price each ranks at and the price it reaches to at a quote.
+//! The morning sheet: the orders of a register, with the price each ranks at and the price it reaches to at a quote.
 #![tactic(auto)]
 
 mod request;

@@ -1,7 +1,7 @@
-// What the arguments ask for.
+//! What the arguments ask for.
 use anyhow::{anyhow, bail};
 
-// The same as in the library days, which a sheet does not need.
+/// The same as in the library days, which a sheet does not need.
 pub(crate) const VERSION: &str = "1.0";
 
 pub(crate) const HELP: &str = "\

@@ -1,4 +1,4 @@
-// The sheet: the quote, a line for each order of the register, and a count.
+//! The sheet: the quote, a line for each order of the register, and a count.
 ghost use Rattle.std.specs.Prelude.{◌≡◌, true, false};
 ghost use Rattle.terms.specs.Prices.{ranked as ranked_of, reach as reach_of};
 ghost use Rattle.terms.specs.Made.{terms_of};
@@ -9,8 +9,8 @@ use std::alloc::{AllocError, Global};
 use std::{fs, io};
 use terms::{HalfCents, Quote, Terms, ranked_price, reach};
 
-// The three prices of an order, in half-cents: where it ranks, and how far it reaches while its side's protection period does
-// not run and while it does.
+/// The three prices of an order, in half-cents: where it ranks, and how far it reaches while its side's protection period does
+/// not run and while it does.
 #[derive(Clone, Copy, Drop)]
 pub struct Prices {
     pub ranked: u32,
@@ -130,7 +130,7 @@ fn lawful_quote(bid: u32, offer: u32) -> anyhow::Result<Quote> {
     })
 }
 
-// The orders of the register that stands in the file.
+/// The orders of the register that stands in the file.
 pub(crate) fn print_sheet(
     rt: &HostRuntime,
     bid: u32,

@@ -5,7 +5,7 @@ use crate::layout::{LINE_BYTES, line_at, put_line};
 use crate::line::Line;
 use crate::tape::{Full, Tape};
 
-// A tape over lent bytes, 43 to a line. What is left past the last whole line is never touched.
+/// A tape over lent bytes, 43 to a line. What is left past the last whole line is never touched.
 #[derive(Drop)]
 pub struct ByteTape<'a> {
     bytes: &'a mut [u8],
@@ -14,7 +14,7 @@ pub struct ByteTape<'a> {
     ghost spelled_out: { take (used * line_length) bytes.now ≡ tape_bytes (lines_in bytes.now used) },
 }
 
-// Writes lines into bytes, as many as fit whole, and tells how many; the bytes after them stay as they are.
+/// Writes lines into bytes, as many as fit whole, and tells how many; the bytes after them stay as they are.
 pub fn write_lines(bytes: &mut [u8], lines: &[Line]) -> usize
     ensures count { result ≡ min (length lines.now) (length bytes.old / line_length) }
     ensures bytes { bytes.new ≡ tape_bytes (take result lines.now) ++ drop (result * line_length) bytes.old }
@@ -31,7 +31,7 @@ impl<'a> ByteTape<'a> {
     ghost use Rattle.std.specs.Prelude.{[]};
     ghost use Rattle.tape.specs.Bytes.{byte_free, byte_lines, byte_row, lender, lent_bytes};
 
-    // An empty tape; what the bytes held counts for nothing.
+    /// An empty tape; what the bytes held counts for nothing.
     pub fn new(bytes: &'a mut [u8]) -> ByteTape<'a>
         ensures empty { byte_lines result ≡ [] }
         ensures free { byte_free result ≡ length bytes.old / line_length }
@@ -40,7 +40,7 @@ impl<'a> ByteTape<'a> {
         ByteTape { bytes, used: 0 }
     }
 
-    // The bytes of the lines so far, to be kept or sent; `line_in` reads them back.
+    /// The bytes of the lines so far, to be kept or sent; `line_in` reads them back.
     pub fn written(&self) -> &[u8]
         ensures bytes { result.now ≡ byte_row self.now }
         ensures lines { result.now ≡ tape_bytes (byte_lines self.now) }

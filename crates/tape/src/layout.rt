@@ -1,4 +1,4 @@
-// A line in bytes: six fields, each a tag, two bytes of length and the value, most significant byte first.
+//! A line in bytes: six fields, each a tag, two bytes of length and the value, most significant byte first.
 ghost use Rattle.std.proofs.Math.Seq.{paste};
 ghost use Rattle.std.specs.List.{AllByRecursion};
 ghost use Rattle.std.specs.Prelude.{List, drop, length, take, ◌+◌, ◌<◌, ◌∷◌, ◌≡◌, ◌≤◌};
@@ -21,7 +21,7 @@ fn put_field(bytes: &mut [u8], at: usize, tag: u8, value: &[u8])
     bytes[at + 3..at + 3 + size].copy_from_slice(value);
 }
 
-// Writes a line over the 43 bytes from a place on, and no other byte. The sizes of the fields differ, so each has its own line here.
+/// Writes a line over the 43 bytes from a place on, and no other byte. The sizes of the fields differ, so each has its own line here.
 pub(crate) fn put_line(bytes: &mut [u8], at: usize, line: Line)
     requires { at + line_length ≤ length bytes.old }
     ensures { bytes.new ≡ paste bytes.old at (line_bytes_of line) line_length }
@@ -34,7 +34,7 @@ pub(crate) fn put_line(bytes: &mut [u8], at: usize, line: Line)
     put_field(bytes, at + 39, 6, &[u8::from(line.mark)]);
 }
 
-// The line as it stands in bytes.
+/// The line as it stands in bytes.
 pub fn line_bytes(line: Line) -> [u8; LINE_BYTES]
     ensures { result ≡ line_bytes_of line }
 {
@@ -51,7 +51,7 @@ fn bytes_at<const N: usize>(bytes: &[u8], at: usize) -> [u8; N]
     *bytes[at..].first_chunk().unwrap()
 }
 
-// What the value bytes of the line that begins at a place say.
+/// What the value bytes of the line that begins at a place say.
 pub(crate) fn line_at(bytes: &[u8], at: usize) -> Line
     requires { at + line_length ≤ length bytes.now }
     ensures { result ≡ line_at bytes.now at }
@@ -66,7 +66,7 @@ pub(crate) fn line_at(bytes: &[u8], at: usize) -> Line
     }
 }
 
-// The line that the bytes spell: none, unless they are exactly one line's bytes.
+/// The line that the bytes spell: none, unless they are exactly one line's bytes.
 #[tactic(auto, using(crate::proofs::Spelling::unread))]
 pub fn read_line(bytes: &[u8]) -> Option<Line>
     ensures { result ≡ line_read bytes.now }
@@ -76,7 +76,7 @@ pub fn read_line(bytes: &[u8]) -> Option<Line>
     (line_bytes(line) == *whole).then_some(line)
 }
 
-// The line at a place in a row of lines, the oldest at 1: none where the bytes there are no line.
+/// The line at a place in a row of lines, the oldest at 1: none where the bytes there are no line.
 pub fn line_in(bytes: &[u8], place: usize) -> Option<Line>
     ensures told { result ≡ line_in_of bytes.now place }
     ensures reads_back_what_was_written { (ls : List TradeLine) → AllByRecursion InWidth ls → bytes.now ≡ tape_bytes ls → result ≡ at_place ls place }

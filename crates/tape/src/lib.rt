@@ -1,4 +1,4 @@
-// What was traded: a tape keeps the lines of the trades, oldest first.
+//! What was traded: a tape keeps the lines of the trades, oldest first.
 #![tactic(auto)]
 
 mod byte_tape;

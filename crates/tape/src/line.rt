@@ -1,7 +1,7 @@
 ghost use Rattle.std.specs.Prelude.{◌≡◌};
 ghost use Rattle.tape.specs.Layout.{mark_code, mark_of};
 
-// Whether the trade depleted a side's best displayed price.
+/// Whether the trade depleted a side's best displayed price.
 #[derive(Clone, Copy, PartialEq, Eq, Debug, Default, Drop)]
 pub enum Mark {
     #[default]
@@ -10,7 +10,7 @@ pub enum Mark {
     OfferDepleted = 2,
 }
 
-// One trade, as the tape keeps it. Time is microseconds since midnight; partner and taker are entry numbers; the price is in half-cents.
+/// One trade, as the tape keeps it. Time is microseconds since midnight; partner and taker are entry numbers; the price is in half-cents.
 #[derive(Clone, Copy, PartialEq, Eq, Debug, Default, Drop)]
 pub struct Line {
     pub time: u64,

@@ -5,7 +5,7 @@ use crate::tape::{Full, Tape};
 use roll::Roll;
 use std::marker::Model;
 
-// A tape of whole lines on a roll.
+/// A tape of whole lines on a roll.
 #[derive(Drop)]
 pub struct RecordTape<'a> {
     roll: Roll<'a, Line>,
@@ -21,7 +21,7 @@ impl<'a> Model for RecordTape<'a> {
 }
 
 impl<'a> RecordTape<'a> {
-    // An empty tape with as many free lines as the slice has places.
+    /// An empty tape with as many free lines as the slice has places.
     pub fn new(room: &'a mut [Line]) -> RecordTape<'a>
         ensures empty { result.lines ≡ [] }
         ensures free { result.free ≡ length room.old }

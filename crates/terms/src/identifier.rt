@@ -1,4 +1,4 @@
-// By what a member knows an order, lawful by its type.
+//! By what a member knows an order, lawful by its type.
 ghost use Rattle.std.specs.List.{list_all};
 ghost use Rattle.std.specs.Prelude.{take, true, ◌≡◌, ◌≤◌};
 ghost use Rattle.terms.specs.Identifiers.{highest, lawful_identifier, longest, lowest};
@@ -11,8 +11,8 @@ const LOWEST: u8 = 33;
 
 const HIGHEST: u8 = 126;
 
-// The first `len` of the bytes; the rest count for nothing, so two are compared as slices. The room for them is fixed:
-// it is kept by value in memory that a book has from its opening, since no call allocates.
+/// The first `len` of the bytes; the rest count for nothing, so two are compared as slices. The room for them is fixed:
+/// it is kept by value in memory that a book has from its opening, since no call allocates.
 #[derive(Clone, Copy, Drop)]
 pub struct Identifier {
     bytes: [u8; LONGEST],
@@ -32,8 +32,8 @@ impl Identifier {
     ghost use Rattle.std.specs.Prelude.{MatchOption, false};
     ghost use Rattle.terms.specs.Naming.{identifier_bytes};
 
-    // None exactly where the bytes are no lawful identifier: between one and twenty, all of them printable ASCII without
-    // the blank (33 to 126).
+    /// None exactly where the bytes are no lawful identifier: between one and twenty, all of them printable ASCII without
+    /// the blank (33 to 126).
     pub fn new(bytes: &[u8]) -> Option<Identifier>
         ensures { MatchOption result (lawful_identifier bytes.now ≡ false) (λ i. identifier_bytes i ≡ bytes.now) }
     {

@@ -1,4 +1,4 @@
-// The five kinds of orders.
+//! The five kinds of orders.
 ghost use Rattle.std.specs.Fmt.{padded};
 ghost use Rattle.std.specs.Prelude.{Some, ok_or, ◌≡◌};
 ghost use Rattle.terms.specs.Codes.{kind_code, kind_from};
@@ -9,7 +9,7 @@ ghost use Rattle.terms.specs.declared.refusal.Refusal.TheVariants.{UnknownCode};
 use crate::refusal::Refusal;
 use std::fmt;
 
-// MDO: midpoint discretionary order.
+/// MDO: midpoint discretionary order.
 #[derive(Clone, Copy, PartialEq, Eq, Debug, Drop)]
 pub enum Kind {
     DisplayedLimit = 1,

@@ -1,4 +1,4 @@
-// Tickets and quotes that cannot be unlawful, and what follows from them: ranked price and reach.
+//! Tickets and quotes that cannot be unlawful, and what follows from them: ranked price and reach.
 #![tactic(auto)]
 
 mod identifier;

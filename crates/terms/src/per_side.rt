@@ -1,9 +1,9 @@
-// A value for each side of the market.
 ghost use Rattle.std.specs.Prelude.{◌≡◌};
 ghost use Rattle.terms.specs.PerSide.{of_side, with_side};
 
 use crate::side::Side;
 
+/// A value for each side of the market.
 #[derive(Clone, Copy, PartialEq, Eq, Debug, Drop)]
 pub struct PerSide<T> {
     pub buy: T,

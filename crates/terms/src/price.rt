@@ -1,4 +1,4 @@
-// The two prices of an order, and how a price is told.
+//! The two prices of an order, and how a price is told.
 ghost use Rattle.std.specs.Prelude.{Some, true, ◌≡◌};
 ghost use Rattle.terms.specs.Made.{terms_of};
 ghost use Rattle.terms.specs.Prices.{limit_or_midpoint as limit_or_midpoint_of, peg as peg_of, ranked, reach as reach_of};
@@ -12,10 +12,10 @@ use crate::side::Side;
 use crate::ticket::Terms;
 use std::fmt;
 
-// In whole cents: no limit and no quote stands above it.
+/// In whole cents: no limit and no quote stands above it.
 pub const TOP_PRICE: u32 = 2_000_000;
 
-// A price in half-cents, shown in dollars with three decimals.
+/// A price in half-cents, shown in dollars with three decimals.
 #[derive(Clone, Copy, Drop)]
 pub struct HalfCents(pub u32);
 
@@ -44,7 +44,7 @@ fn limit_or_midpoint(terms: Terms, quote: Quote) -> u32
     tamer(terms.side, 2 * terms.limit, quote.bid + quote.offer)
 }
 
-// Where the order stands in the book, in half-cents.
+/// Where the order stands in the book, in half-cents.
 pub fn ranked_price(terms: Terms, quote: Quote) -> u32
     ensures { result ≡ ranked (terms_of terms) quote.bid quote.offer }
 {
@@ -59,7 +59,7 @@ pub fn ranked_price(terms: Terms, quote: Quote) -> u32
     }
 }
 
-// The price up to which the order trades, in half-cents; `period_runs` tells whether its side is protected now.
+/// The price up to which the order trades, in half-cents; `period_runs` tells whether its side is protected now.
 pub fn reach(terms: Terms, period_runs: bool, quote: Quote) -> u32
     ensures { result ≡ reach_of (terms_of terms) period_runs quote.bid quote.offer }
 {

@@ -1,4 +1,4 @@
-// Why there is no ticket or no quote.
+//! Why there is no ticket or no quote.
 ghost use Rattle.std.specs.Fmt.{padded};
 ghost use Rattle.std.specs.Prelude.{Some, ◌≡◌};
 ghost use Rattle.terms.specs.Codes.{refusal_number};
@@ -7,7 +7,7 @@ ghost use Rattle.terms.specs.Shown.{refusal_words};
 use std::error::Error;
 use std::fmt;
 
-// Why a ticket or a quote is refused, each with its number.
+/// Why a ticket or a quote is refused, each with its number.
 #[derive(Clone, Copy, PartialEq, Eq, Debug, Drop)]
 pub enum Refusal {
     UnknownCode = 1,
@@ -25,7 +25,7 @@ impl Refusal {
         self as u8
     }
 
-    // Static, since the report of a fault keeps these words.
+    /// Static, since the report of a fault keeps these words.
     pub fn words(self) -> &'static str
         ensures { result.now ≡ refusal_words self }
     {

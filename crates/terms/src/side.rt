@@ -1,4 +1,3 @@
-// Buy or sell.
 ghost use Rattle.std.specs.Fmt.{padded};
 ghost use Rattle.std.specs.Prelude.{Some, ok_or, ◌≡◌};
 ghost use Rattle.terms.specs.Codes.{side_code, side_from};
@@ -8,6 +7,7 @@ ghost use Rattle.terms.specs.declared.refusal.Refusal.TheVariants.{UnknownCode};
 use crate::refusal::Refusal;
 use std::fmt;
 
+/// Buy or sell.
 #[derive(Clone, Copy, PartialEq, Eq, Debug, Drop)]
 pub enum Side {
     Buy = 1,

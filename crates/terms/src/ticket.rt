@@ -1,4 +1,4 @@
-// What an order says: the numbers that are handed over, and the ticket that they make, lawful by its type.
+//! What an order says: the numbers that are handed over, and the ticket that they make, lawful by its type.
 ghost use Rattle.std.specs.Prelude.{ok_or, true, ◌≡◌, ◌≤◌};
 ghost use Rattle.terms.specs.Codes.{qdp_from};
 ghost use Rattle.terms.specs.Judging.{aggressive, go_together, offset_in_range};
@@ -10,13 +10,13 @@ use crate::refusal::Refusal;
 use crate::side::Side;
 use crate::time_in_force::TimeInForce;
 
-// Most shares of an order.
+/// Most shares of an order.
 pub const MOST_SHARES: u32 = 1_000_000;
 
-// In whole cents, to either side.
+/// In whole cents, to either side.
 pub const FARTHEST_OFFSET: i32 = 100;
 
-// A ticket in numbers, as it comes in and before it is judged: codes, shares, cents.
+/// A ticket in numbers, as it comes in and before it is judged: codes, shares, cents.
 #[derive(Clone, Copy, PartialEq, Eq, Debug, Drop)]
 pub struct Draft {
     pub side: u8,
@@ -28,7 +28,7 @@ pub struct Draft {
     pub offset: i32,
 }
 
-// What an order says: 1 to 1,000,000 shares; limit (1 to 2,000,000) and offset (-100 to 100) in whole cents.
+/// What an order says: 1 to 1,000,000 shares; limit (1 to 2,000,000) and offset (-100 to 100) in whole cents.
 #[derive(Clone, Copy, Debug, Drop)]
 pub struct Terms {
     pub side: Side,
@@ -44,7 +44,7 @@ pub struct Terms {
     ghost parts_lawful: { go_together side kind time_in_force qdp offset ≡ true },
 }
 
-// One ticket, one entry: a ticket is moved into the book and never copied.
+/// One ticket, one entry: a ticket is moved into the book and never copied.
 #[derive(Debug, Drop)]
 pub struct Ticket {
     pub(crate) terms: Terms,
@@ -90,7 +90,7 @@ impl Ticket {
     ghost use Rattle.terms.specs.Judging.{judged, ticket_from};
     ghost use Rattle.terms.specs.Made.{as_terms, terms_in};
 
-    // Codes are judged first, then shares, limit, offset, and whether the parts go together; the first fault is the refusal.
+    /// Codes are judged first, then shares, limit, offset, and whether the parts go together; the first fault is the refusal.
     pub fn new(draft: Draft) -> Result<Ticket, Refusal>
         ensures { as_terms result ≡ ticket_from draft }
     {
@@ -135,7 +135,7 @@ impl Ticket {
         self.terms
     }
 
-    // A second ticket with the same terms, for a second entry.
+    /// A second ticket with the same terms, for a second entry.
     pub fn again(&self) -> Ticket
         ensures { result ≡ self.now }
     {

@@ -1,10 +1,10 @@
-// How long an order stays.
 ghost use Rattle.std.specs.Prelude.{ok_or, ◌≡◌};
 ghost use Rattle.terms.specs.Codes.{time_in_force_code, time_in_force_from};
 ghost use Rattle.terms.specs.declared.refusal.Refusal.TheVariants.{UnknownCode};
 
 use crate::refusal::Refusal;
 
+/// How long an order stays.
 #[derive(Clone, Copy, PartialEq, Eq, Debug, Drop)]
 pub enum TimeInForce {
     Rest = 1,
