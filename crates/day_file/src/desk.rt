@@ -35,6 +35,9 @@ fn tell_end(ended: Result<Loaded, LoadFault>, out: &mut Output) -> Result<(), Al
 
 impl<D: Directory, T: Tape> Desk<D, T> {
     ghost use Rattle.book_register.specs.Written.{Written};
+    ghost use Rattle.rules.specs.Calls.{cancel as cancel_of, tick as tick_of};
+    ghost use Rattle.book.specs.Running.{after};
+    ghost use Rattle.day_file.specs.Answered.{after_command, after_entry, after_quote};
     ghost use Rattle.day_file.specs.Desks.{after_load, book_of, running_of};
     ghost use Rattle.std.specs.Prelude.{◌≡◌};
 
@@ -51,35 +54,41 @@ impl<D: Directory, T: Tape> Desk<D, T> {
         Ok(())
     }
 
-    fn entry(&mut self, time: u64, id: &[u8], draft: Draft) -> Result<[u64; 3], Refused> {
+    fn entry(&mut self, time: u64, id: &[u8], draft: Draft) -> Result<[u64; 3], Refused>
+        ensures { running_of self.new ≡ after_entry (running_of self.old) time id.now draft }
+    {
         let ticket = Ticket::new(draft)?;
         let (number, traded, lapsed) = self.book.enter(time, id, ticket)?;
         Ok([u64::from(number), u64::from(traded), u64::from(lapsed)])
     }
 
-    fn cancel(&mut self, time: u64, id: &[u8]) -> Result<[u64; 1], Refused> {
+    fn cancel(&mut self, time: u64, id: &[u8]) -> Result<[u64; 1], Refused>
+        ensures { running_of self.new ≡ after (running_of self.old) (cancel_of time id.now) }
+    {
         let shares = self.book.cancel(time, id)?;
         Ok([u64::from(shares)])
     }
 
-    fn quote(&mut self, time: u64, bid: u32, offer: u32) -> Result<[u64; 0], Refused> {
+    fn quote(&mut self, time: u64, bid: u32, offer: u32) -> Result<[u64; 0], Refused>
+        ensures { running_of self.new ≡ after_quote (running_of self.old) time bid offer }
+    {
         let quote = Quote::new(bid, offer)?;
         self.book.quote(time, quote)?;
         Ok([])
     }
 
-    fn tick(&mut self, time: u64) -> Result<[u64; 0], Refused> {
+    fn tick(&mut self, time: u64) -> Result<[u64; 0], Refused>
+        ensures { running_of self.new ≡ after (running_of self.old) (tick_of time) }
+    {
         self.book.tick(time)?;
         Ok([])
     }
 
     /// Answers a command that asks for the book alone, with the trades that it made. None for any other, which programs treat each in
     /// its own way.
-    pub fn answer(
-        &mut self,
-        command: &Command,
-        out: &mut Output,
-    ) -> Result<Option<()>, AllocError> {
+    pub fn answer(&mut self, command: &Command, out: &mut Output) -> Result<Option<()>, AllocError>
+        ensures { running_of self.new ≡ after_command (running_of self.old) command.now }
+    {
         match command {
             Command::Entry { time, id, draft } => {
                 out.answer("entered", self.entry(*time, id, *draft))?
