@@ -56,10 +56,10 @@ module _ (time room places total : ℕ) where
     pub listed : Lists total rest orders left
     pub one_by_one : OneByOne time room orders load.book calls due ended.load.book
     pub made_so : ended.load.calls ≡ load.calls ++ calls
-    pub ends : EndsAt places total left (load.slips ++ due) ended.load.slips ended.stop
+    pub ends : EndsAt places total orders left (load.slips ++ due) ended.load.slips ended.stop
     pub count : ended.load.entered + length due ≡ load.entered + length orders
 
-  nothing_more : (rest : List ℕ) (load : Load) (stop : Option LoadFault) → EndsAt places total rest (load.slips ++ []) load.slips stop → Dealt rest load (stopped_if stop load)
+  nothing_more : (rest : List ℕ) (load : Load) (stop : Option LoadFault) → EndsAt places total [] rest (load.slips ++ []) load.slips stop → Dealt rest load (stopped_if stop load)
   nothing_more rest load stop ends =
       record {
         orders = [];
@@ -77,6 +77,15 @@ module _ (time room places total : ℕ) where
   module _ (rest left : List ℕ) (load : Load) (place : ℕ) (order : Listed) (read : read_next total rest ≡ Some (Ok (record { order = order; rest = left }))) (here : place ≡ place_in total rest) where
     abbrev at : OrderAt
     at = record { place = place; order = order }
+
+    -- a load that ends with more orders ends so with this one before them
+    ends_on : (orders : List OrderAt) (rest : List ℕ) (due put : List Slip) (stop : Option LoadFault)
+        → EndsAt places total orders rest due put stop → EndsAt places total (at ∷ orders) rest due put stop
+    ends_on orders rest due put None e = e
+    ends_on orders rest due put (Some (Register fault)) e = e
+    ends_on orders rest due put (Some (SlipsFull stood)) e =
+        (e.0, e.1, (at ∷ e.2.0, e.2.1, ap (λ z. at ∷ z) e.2.2, e.2.3))
+    ends_on orders rest due put (Some (Book why stood)) e = absurd e
 
     -- it takes these calls and slips, and leaves the book `between`
     abbrev Takes : List Call → List Slip → RuleBook → Type 0
@@ -97,7 +106,7 @@ module _ (time room places total : ℕ) where
             listed = (left, read, here, d.listed);
             one_by_one = takes d.orders ended.load.book d.calls d.due d.one_by_one;
             made_so = d.made_so ∙ append_assoc load.calls cs d.calls;
-            ends = subst (λ z. EndsAt places total d.left z ended.load.slips ended.stop) (ap (λ z. z ++ d.due) (sym put) ∙ append_assoc load.slips ss d.due) d.ends;
+            ends = ends_on d.orders d.left _ ended.load.slips ended.stop (subst (λ z. EndsAt places total d.orders d.left z ended.load.slips ended.stop) (ap (λ z. z ++ d.due) (sym put) ∙ append_assoc load.slips ss d.due) d.ends);
             count = omega (arith, d.count, one, length-append ss d.due);
           }
 
@@ -114,7 +123,7 @@ module _ (time room places total : ℕ) where
             listed = (left, read, here, refl);
             one_by_one = takes [] between [] [] (no_order between);
             made_so = ap (λ z. load.calls ++ z) (sym (append-nil cs));
-            ends = (full, (slip, refl, told));
+            ends = (full, (slip, refl, told), ([], at, refl, refl));
             count = refl;
           }
 

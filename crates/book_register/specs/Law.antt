@@ -1,5 +1,5 @@
 -- The law of loads, in words. A load deals with the orders that a register lists one by one, in their order and all at one time:
--- it enters each whose ticket is lawful, and each that is not entered leaves a slip. It ends where the register ends, at a fault of
+-- it makes an entry of each whose ticket is lawful, and each whose ticket or entry is refused leaves a slip. It ends where the register ends, at a fault of
 -- a field or of an order, or where a slip finds no place.
 use Rattle.std.specs.Prelude.{◌≡◌, ℕ, ◌+◌, ◌⊎◌, List, [], ◌∷◌, ◌++◌, length, Some, None, Ok, Err, Option}
 use Rattle.std.specs.List.{AllByRecursion as Every}
@@ -82,14 +82,18 @@ module _ (time room : ℕ) where
         → OneByOne more between calls due after
         → OneByOne (at ∷ more) before (call ∷ calls) (slip ∷ due) after
 
--- Where a load ends, with `left` left to read: at the register's end or at a fault all slips that are due are put. Where a slip finds
--- none of the places free, it is the last that is due, and all before it are put.
-abbrev pub EndsAt : ℕ → ℕ → List ℕ → List Slip → List Slip → Option LoadFault → Type 0
-EndsAt places total left due put None = (read_next total left ≡ None) × (put ≡ due)
-EndsAt places total left due put (Some (Register fault)) = (read_next total left ≡ Some (Err fault)) × (put ≡ due)
-EndsAt places total left due put (Some (SlipsFull place)) =
-    (length put ≡ places) × ((slip : Slip) × (due ≡ put ++ (slip ∷ [])) × (slip.place ≡ place))
-EndsAt places total left due put (Some (Book why place)) = ⊥
+-- the last of the orders stands at the place
+abbrev pub LastStandsAt : ℕ → List OrderAt → Type 0
+LastStandsAt place orders = (before : List OrderAt) × (last : OrderAt) × (orders ≡ before ++ (last ∷ [])) × (last.place ≡ place)
+
+-- Where a load ends, with these orders dealt with and `left` left to read: at the register's end or at a fault all slips that are due
+-- are put. Where a slip finds none of the places free, it is that of the last order, and all before it are put.
+abbrev pub EndsAt : ℕ → ℕ → List OrderAt → List ℕ → List Slip → List Slip → Option LoadFault → Type 0
+EndsAt places total orders left due put None = (read_next total left ≡ None) × (put ≡ due)
+EndsAt places total orders left due put (Some (Register fault)) = (read_next total left ≡ Some (Err fault)) × (put ≡ due)
+EndsAt places total orders left due put (Some (SlipsFull place)) =
+    (length put ≡ places) × ((slip : Slip) × (due ≡ put ++ (slip ∷ [])) × (slip.place ≡ place)) × LastStandsAt place orders
+EndsAt places total orders left due put (Some (Book why place)) = ⊥
 
 abbrev pub EntryAt : ℕ → Call → Type 0
 EntryAt time (entry at id terms) = at ≡ time
@@ -113,7 +117,7 @@ pub record LawfulLoad (time room places : ℕ) (register : List ℕ) (book : Rul
   pub due : List Slip
   pub listed : Lists (length register) register orders left
   pub one_by_one : OneByOne time room orders book ended.load.calls due ended.load.book
-  pub ends : EndsAt places (length register) left due ended.load.slips ended.stop
+  pub ends : EndsAt places (length register) orders left due ended.load.slips ended.stop
   pub accounted : ended.load.entered + length due ≡ length orders
   pub at_time : Every (EntryAt time) ended.load.calls
   pub slips : Every OfOneOrder ended.load.slips

@@ -1,7 +1,7 @@
 -- What a command makes of the book that answers it.
 use Rattle.std.specs.Prelude.{ℕ, List, Ok, Err}
 use Rattle.terms.specs.declared.ticket.Draft.{Draft}
-use Rattle.terms.specs.Terms.{ticket_from, quote_from}
+use Rattle.terms.specs.Judging.{quote_from, ticket_from}
 use Rattle.rules.specs.Calls.{entry, cancel, quote, tick}
 use Rattle.book.specs.Running.{Running, after}
 use Rattle.day_file.specs.declared.command.Command.{Command}

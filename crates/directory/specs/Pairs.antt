@@ -28,7 +28,7 @@ abbrev pub apart : List Pair → Bool
 apart [] = true
 apart (p ∷ ps) = not (is_some (number_among ps p.0)) && apart ps
 
--- The numbers and the count of every directory are those of such pairs.
+-- The numbers and the count of every directory are those of some list of pairs: at most 64, their identifiers lawful and all different.
 pub record HasPairs (number : Numbers) (count : ℕ) : Type 0 where
   pub pairs : List Pair
   pub no_name_twice : apart pairs ≡ true

@@ -1,4 +1,4 @@
--- All worked examples, as one table: a question to the definitions, and its answer. Prices, bounds of tickets and identifiers, and
+-- Worked examples but those of questions, as one table: a question to the definitions, and its answer. Prices, bounds of tickets and identifiers, and
 -- a register read; orders written into a buffer; whole runs of the rule book.
 use Rattle.std.specs.Prelude.{ℕ, ◌≡◌, List, ◌++◌, map}
 use Rattle.tape.specs.declared.line.Line.{Line}

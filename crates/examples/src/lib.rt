@@ -1,11 +1,12 @@
-//! The worked examples together: one table, and one proof that the definitions give what is told.
+//! The worked examples together: a table of orders, buffers and runs, the questions, and one proof that the definitions give what is
+//! told.
 #![tactic(auto)]
 
 ghost use Rattle.std.specs.Prelude.{◌≡◌, length};
 ghost use Rattle.examples.specs.Examples.{QuestionsAsTold};
 ghost use Rattle.examples.specs.Table.{examples, ExamplesAsTold};
 
-/// How many there are in the table. That each comes out as told is the contract, and so what is asked of books comes out.
+/// How many there are in the table. That each comes out as told is the contract, and so does each question that is asked of a book.
 pub fn worked_examples() -> usize
     ensures told { ExamplesAsTold }
     ensures questions { QuestionsAsTold }

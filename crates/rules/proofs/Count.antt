@@ -1,6 +1,6 @@
 -- However many orders rest before a call, it writes no more lines than that. Each line ends a row, so lines and rows
 -- together never become more; an entry adds a row for itself, and its sweep leaves a row or writes one line fewer, since
--- partners are two. The law is lines_within_orders.
+-- partners are two. Cite lines_within_orders.
 use Rattle.std.proofs.Common.{◌≡◌, ℕ, ◌+◌, ◌<◌, ◌≤◌, Bool, true, false, ◌⊎◌, List, [], ◌∷◌, ◌++◌, length, Some, None, sym, refl, ap, ◌∙◌, inl, inr, arith, length-append}
 use Rattle.std.proofs.lemmas.Bool.{cases_lt}
 use Rattle.terms.specs.Sides.{opposite}

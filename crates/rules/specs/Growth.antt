@@ -11,7 +11,7 @@ pub record TapeGrows (before after : Book) : Type 0 where
   pub tape : after.market.tape ≡ before.market.tape ++ written
   pub few : length written ≤ length before.market.orders
 
--- after every run, so does any one call that follows leave it
+-- so it is after every run, whichever call comes next
 abbrev pub TapeOnlyGrows : Type 0
 TapeOnlyGrows =
     (bid offer room free : ℕ) (calls : List Call) (next : Call)

@@ -1,4 +1,4 @@
--- The laws of whole runs, and of single calls, each in a sentence. A run is any list of calls on a new book, and its tape has
+-- Laws of whole runs, of single calls and of any market, each in a sentence; more stand in WholeDay, Growth, Finished and Trades. A run is any list of calls on a new book, and its tape has
 -- room for `room` lines.
 use Rattle.std.specs.Prelude.{◌≡◌, ℕ, ◌+◌, ◌*◌, ◌<◌, ◌≤◌, Bool, true, false, ◌↔◌, List, [], ◌∷◌, length, Some, None, Option}
 use Rattle.std.specs.List.{ContainsAt as Has, AllByRecursion as Every}
@@ -72,9 +72,9 @@ BestPartner =
 
 -- Settling
 
--- settling to a time and then to a later one is settling to the later one
+-- settling to two times, one after the other, is settling to the later of them
 abbrev pub SettlesAtOnce : ℕ → ℕ → ℕ → Type 0
-SettlesAtOnce time later both = time ≤ later → (market : Market) → settle later (settle time market) ≡ settle both market
+SettlesAtOnce first second later = (market : Market) → settle second (settle first market) ≡ settle later market
 
 -- Refusals
 

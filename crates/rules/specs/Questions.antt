@@ -54,7 +54,7 @@ standing_of market None = None
 standing_of market (Some order) =
     Some (record { number = order.number; ranked = ranked_in market order; reach = reach_in market order; left = order.left })
 
--- the answer to the question what stands on a side at a place; without a side nothing does
+-- whether the answer is right to the question what stands on a side at a place; without a side nothing does
 abbrev pub AnsweredOn : Market → Option Side → ℕ → Option Standing → Type 0
 AnsweredOn market None place answer = answer ≡ None
 AnsweredOn market (Some side) place answer =

@@ -30,8 +30,9 @@ pub data Leads : Market → Market → Type 0 where
   here : (market : Market) → Leads market market
   on : (first market next : Market) → Leads first market → Step market next → Leads first next
 
--- between the two markets, when only the earlier lines stood on the tape, taker and partner met, and the line tells their trade:
--- the lesser of the shares left of the two, at the line price, marked exactly if it depletes the partner's side
+-- some market that the first leads to, and that leads to the last, has only the earlier lines on its tape, taker and partner meet
+-- in it, and the line tells their trade: the lesser of the shares left of the two, at the line price, marked exactly if it depletes
+-- the partner's side. Which calls lead there is left open
 pub record LineTellsTrade (first last : Market) (earlier : List Line) (line : Line) : Type 0 where
   pub market : Market
   pub taker : Order

@@ -46,8 +46,8 @@ TicksInTime (tick time ∷ later) =
 abbrev pub TapeNeverShort : List Answer → Type 0
 TapeNeverShort answers = Every (λ answer. answer ≢ refused TapeShort) answers
 
--- if the calls of two runs agree but for ticks, the shared calls are answered alike, and the books that they leave, tapes
--- included, are equal exactly when their clocks are
+-- if the calls of two runs agree but for ticks, all ticks come in time and no call was refused for a short tape, then the shared
+-- calls are answered alike, and the books that they leave, tapes included, are equal exactly when their clocks are
 abbrev pub AlikeButForTicks : List Call → Run → List Call → Run → Type 0
 AlikeButForTicks calls ran other_calls other =
     shared calls ≡ shared other_calls

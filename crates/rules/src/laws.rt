@@ -1,12 +1,14 @@
-//! Each carries a law on its contract; nothing calls them.
-ghost use Rattle.std.specs.Prelude.{min, nat_le, nat_lt, ◌≡◌};
+//! Each function here carries a law on its contract; nothing calls them.
+ghost use Rattle.std.specs.Prelude.{nat_le, nat_lt, ◌≡◌};
 ghost use Rattle.rules.specs.Finished.{NothingDue};
 ghost use Rattle.rules.specs.Growth.{TapeOnlyGrows};
 ghost use Rattle.rules.specs.Laws.{EntriesCounted, NeverCrossed, NumberedInTurn, NumbersAscend, OrdersWithinPlaces, ReasonsHold, SettlesAtOnce, SharesRemain, TapeExplainsDiscretion, TicksChangeOnlyTheClock};
-ghost use Rattle.rules.specs.Limits.{fewest_left, last_moment, most_entries, most_resting, protection_period};
+ghost use Rattle.rules.specs.Limits.{fewest_left, last_moment, most_entries, most_resting, protection_period, round_lot};
 ghost use Rattle.rules.specs.Trades.{LinesTellTrades};
 
-use crate::limits::{FEWEST_LEFT, LAST_MOMENT, MOST_ENTRIES, MOST_RESTING, PROTECTION_PERIOD};
+use crate::limits::{
+    FEWEST_LEFT, LAST_MOMENT, MOST_ENTRIES, MOST_RESTING, PROTECTION_PERIOD, ROUND_LOT,
+};
 
 /// The last moment of the day; until then it does not matter when the book is ticked.
 pub fn ticks_change_only_the_clock() -> u64
@@ -49,7 +51,7 @@ pub fn never_crossed(buy_reach: u32, sell_reach: u32) -> bool
 }
 
 /// Whether so many free lines are enough for a call that finds so many orders resting. No call takes a line back, and none writes
-/// more lines than orders rest.
+/// more lines than orders rested.
 pub fn lines_within_orders(resting: usize, free: usize) -> bool
     ensures enough { result ≡ nat_le resting free }
     ensures grows { TapeOnlyGrows }
@@ -57,13 +59,13 @@ pub fn lines_within_orders(resting: usize, free: usize) -> bool
     resting <= free
 }
 
-/// How many shares a line tells, where so many are left of its taker and its partner. Each line of a tape tells the trade that
-/// was due when it was made.
-pub fn lines_tell_trades(taker_left: u32, partner_left: u32) -> u32
-    ensures shares { result ≡ min partner_left taker_left }
+/// Whether so few shares displayed at a side's best price deplete it. Each line of a tape tells a trade of a taker with its next
+/// partner, and is marked where the trade depletes.
+pub fn lines_tell_trades(displayed: u64) -> bool
+    ensures depletes { result ≡ nat_lt displayed round_lot }
     ensures trades { LinesTellTrades }
 {
-    partner_left.min(taker_left)
+    displayed < u64::from(ROUND_LOT)
 }
 
 /// The highest entry number. Accepted entries have the numbers from 1 on, without a gap, and stand in the book in that order.

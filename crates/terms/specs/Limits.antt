@@ -9,6 +9,6 @@ most_shares = 1000000
 abbrev pub top_price : ℕ
 top_price = 2000000
 
--- in cents, to either side
+-- in cents, up or down
 abbrev pub farthest_offset : ℕ
 farthest_offset = 100

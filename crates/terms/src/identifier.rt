@@ -4,7 +4,7 @@ ghost use Rattle.std.specs.Prelude.{take, true, ◌≡◌, ◌≤◌};
 ghost use Rattle.terms.specs.Identifiers.{highest, lawful_identifier, longest, lowest};
 ghost use Rattle.terms.specs.Terms.{in_range};
 
-// The most bytes of an identifier, and the lowest and highest value of one.
+// The most bytes of an identifier, and the lowest and the highest byte.
 const LONGEST: usize = 20;
 
 const LOWEST: u8 = 33;
@@ -32,8 +32,8 @@ impl Identifier {
     ghost use Rattle.std.specs.Prelude.{MatchOption, false};
     ghost use Rattle.terms.specs.Naming.{identifier_bytes};
 
-    /// None exactly where the bytes are no lawful identifier: between one and twenty, all of them printable ASCII without
-    /// the blank (33 to 126).
+    /// A lawful identifier has between one and twenty bytes, all of them printable ASCII without the blank (33 to 126). None
+    /// exactly where the bytes are none.
     pub fn new(bytes: &[u8]) -> Option<Identifier>
         ensures { MatchOption result (lawful_identifier bytes.now ≡ false) (λ i. identifier_bytes i ≡ bytes.now) }
     {

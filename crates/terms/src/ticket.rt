@@ -13,7 +13,7 @@ use crate::time_in_force::TimeInForce;
 /// Most shares of an order.
 pub const MOST_SHARES: u32 = 1_000_000;
 
-/// In whole cents, to either side.
+/// In whole cents, up or down.
 pub const FARTHEST_OFFSET: i32 = 100;
 
 /// A ticket in numbers, as it comes in and before it is judged: codes, shares, cents.
