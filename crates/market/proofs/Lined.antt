@@ -60,6 +60,14 @@ module _ (t p : ℕ) (o : Order) where
       option_some (resting o.number m.orders) m (λ r. elim (partner_for o p m) [ None ↦ m | Some x ↦ lines n t p o (trade t p r x m) ]) row e
       ∙ option_none (partner_for o p m) m (λ x. lines n t p o (trade t p row x m)) f
 
+  -- with no partner, whether the order rests or not
+  pub lines_idle : (n : ℕ) (m : Market) → partner_for o p m ≡ None → lines n t p o m ≡ m
+  lines_idle n m f = by (resting o.number m.orders) refl
+    where
+      by : (r : Option Order) → resting o.number m.orders ≡ r → lines n t p o m ≡ m
+      by None e = lines_gone n m e
+      by (Some row) e = lines_alone n m row e f
+
   pub lines_go : (n : ℕ) (m : Market) (row x : Order) → resting o.number m.orders ≡ Some row → partner_for o p m ≡ Some x → lines (suc n) t p o m ≡ lines n t p o (trade t p row x m)
   unfolding lines
   lines_go n m row x e f =

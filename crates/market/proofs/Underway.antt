@@ -1,6 +1,6 @@
 -- A loop over a market that is on its way: what is still to do gives the whole. Cite: Underway as the loop's invariant, arrived
 -- where the loop ends.
-use Rattle.std.proofs.Common.{◌≡◌, vec_items, sym, ◌∙◌}
+use Rattle.std.proofs.Common.{◌≡◌, false, Some, None, Option, is_some, vec_items, refl, sym, ◌∙◌}
 use Rattle.tape.specs.declared.tape.Tape.{Ghosts as TapeOf}
 use Rattle.rules.specs.Market.{Market}
 use Rattle.market.specs.Changes.{SameButShares}
@@ -15,3 +15,11 @@ pub record Underway {T : Type 0} (t : TapeOf T) (old now : TableAndTape T) (So :
 pub arrived : {T : Type 0} (t : TapeOf T) (old now : TableAndTape T) (rule : Market → Market) (whole : Market) (So : Type 0)
     → rule (market_of t old) ≡ whole → Underway t old now So → (So → whole ≡ market_of t now) → Follows t old now rule
 arrived t old now rule whole So e u over = record { market = sym (e ∙ over u.so); capacity = u.capacity; rows = u.rows }
+
+-- a rule that leaves the market as it is
+pub unmoved : {T : Type 0} (t : TapeOf T) (old : TableAndTape T) (rule : Market → Market) → rule (market_of t old) ≡ market_of t old → Follows t old old rule
+unmoved t old rule e = record { market = sym e; capacity = refl; rows = refl }
+
+pub none_from : {A : Type 0} (o : Option A) → is_some o ≡ false → o ≡ None
+none_from None e = refl
+none_from (Some x) e = cc

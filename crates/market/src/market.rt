@@ -50,6 +50,10 @@ impl<T: Tape> Market<T> {
         ensures finished { FilledOrAlone (row_order taker.now) (reach_in (market_of T.Tape self.old) (row_order taker.now)) (market_of T.Tape self.new) }
     {
         let price = self.table.reach(taker);
+        // most sweeps find no partner, and need no count
+        if self.table.partner_for(taker, price).is_none() {
+            return;
+        }
         // counted as in the rule book, whose sweep has so many turns
         let turns = self.table.len_resting();
         for _ in 0..turns {
@@ -155,6 +159,10 @@ impl<T: Tape> Market<T> {
         ensures follows { Follows T.Tape self.old self.new (settle_of time) }
         ensures nothing_due { NothingDueAt time (market_of T.Tape self.new) }
     {
+        // mostly no period is due, and nothing needs a count
+        if self.due(time).is_none() {
+            return;
+        }
         // counted as in the rule book, whose settling has so many turns
         let periods = self.table.len_resting() + 2;
         for _ in 0..periods {

@@ -1,12 +1,14 @@
 -- The invariant of the loop: what is left of the sweep, from here on, gives the whole sweep.
-use Rattle.std.proofs.Common.{◌≡◌, ℕ, suc, ◌+◌, ◌-◌, ◌≤◌, length, sym, ap, ◌∙◌, subst, arith}
+use Rattle.std.proofs.Common.{refl, ◌≡◌, ℕ, suc, ◌+◌, ◌-◌, ◌≤◌, length, sym, ap, ◌∙◌, subst, arith}
+use Rattle.std.specs.Option.{option_map}
 use Rattle.rules.specs.Sweep.{lines, sweep, trade}
 use Rattle.rules.specs.Market.{Market}
 use Rattle.market.specs.Rows.{row_order}
+use Rattle.market.specs.Seen.{orders_of}
 use Rattle.market.specs.Markets.{market_of, capacity_of}
-use Rattle.market.proofs.Lined.{partner_still, sweep_lines, lines_none, lines_gone, lines_alone, lines_go, line_room}
+use Rattle.market.proofs.Lined.{partner_still, sweep_lines, lines_none, lines_gone, lines_alone, lines_idle, lines_go, line_room}
 use Rattle.market.proofs.Ended.{sweep_ended}
-use Rattle.market.proofs.Underway.{arrived}
+use Rattle.market.proofs.Underway.{arrived, unmoved, none_from}
 use Rattle.market.proofs.market.Market.sweep.Goals as goal
 use Rattle.market.proofs.market.Market.sweep.Goals.{In-Some-partner_for}
 use Rattle.market.proofs.market.Market.sweep.Given.{Over}
@@ -66,3 +68,16 @@ returns g c =
     let follows =
     arrived g.T.Tape c.args.self.now c.loop.self (sweep c.args.time o) _ _ e c.loop.invariant (λ so. so ∙ lines_none c.args.time c.reach-price.result o _ (market_of g.T.Tape c.loop.self) (omega (arith, c.loop-test.false))) in
     record { follows = follows; finished = sweep_ended g.T.Tape c.args.self.now c.loop.self c.args.time o follows }
+
+pub returns-then-is_none : goal.returns-then-is_none
+returns-then-is_none g c =
+    let o = row_order c.args.taker.now in
+    let here = market_of g.T.Tape c.args.self.now in
+    let tape = g.T.Tape.lines c.args.self.now.tape in
+    let table = c.args.self.now.table in
+    let alone = sym (c.partner_for.ensures ∙ partner_still tape table o c.reach-price.result) ∙ ap (option_map row_order) (none_from c.partner_for.result c.if-is_none.ensures) in
+    let follows =
+    unmoved g.T.Tape c.args.self.now (sweep c.args.time o)
+    (sweep_lines tape table c.args.time o (length (orders_of table)) c.reach-price.result refl c.reach-price.ensures
+    ∙ lines_idle c.args.time c.reach-price.result o (length (orders_of table)) here alone) in
+    record { follows = follows; finished = sweep_ended g.T.Tape c.args.self.now c.args.self.now c.args.time o follows }
