@@ -10,6 +10,7 @@ pub mod Latest
 pub mod Lined
 pub mod Next
 pub mod Places
+pub mod Reached
 pub mod Reasons
 pub mod Retired
 pub mod Settled

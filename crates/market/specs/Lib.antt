@@ -4,6 +4,7 @@ pub mod Joining
 pub mod Markets
 pub mod Meant
 pub mod Ranks
+pub mod Reaches
 pub mod Rounds
 pub mod Rows
 pub mod Seen

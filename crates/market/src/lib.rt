@@ -6,6 +6,7 @@ mod figures;
 mod market;
 mod priority;
 mod ranking;
+mod reaches;
 mod table;
 mod trade;
 

@@ -91,6 +91,9 @@ impl Table {
     pub(crate) fn next_partner(&self, side: Side, price: u32) -> Option<Row>
         ensures { option_map row_order result ≡ next_partner_of (seen self.now) side price (orders_of self.now) }
     {
+        if !meets(side, *self.farthest.get(side), price) {
+            return None;
+        }
         self.rows
             .iter()
             .filter(|row| row.rests() && self.is_partner(side, price, row))

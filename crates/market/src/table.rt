@@ -1,9 +1,11 @@
 //! The order table, with what the prices of its orders depend on.
+ghost use Rattle.market.specs.Reaches.{AllWithin};
 ghost use Rattle.market.specs.Rows.{most_rows, rests, rests as rests_of, rising, row_order};
 ghost use Rattle.rules.specs.Sweep.{displayed as displayed_of, shows as shows_of};
 ghost use Rattle.std.specs.Prelude.{if◌then◌else◌, true, vec_capacity, vec_len, ◌&&◌, ◌≡◌, ◌≤◌};
 ghost use Rattle.terms.specs.Sides.{same_side};
 
+use crate::reaches::{NOWHERE, farthest_of, widen};
 use rules::MOST_RESTING;
 use std::alloc::{AllocError, Global};
 use terms::{Identifier, Kind, PerSide, Quote, Side, Terms, ranked_price, reach};
@@ -53,15 +55,17 @@ impl Row {
 }
 
 /// Rows stand by ascending entry number: 64 may rest, and one more may stand while it is being entered. The ends are those of
-/// the sides' protection periods, where they run.
+/// the sides' protection periods, where they run. No row of a side reaches farther than the side's bound.
 #[derive(Drop)]
 pub struct Table {
     pub(crate) rows: Vec<Row>,
+    pub(crate) farthest: PerSide<u32>,
     pub(crate) quote: Quote,
     pub(crate) ends: PerSide<Option<u64>>,
     ghost room: { most_rows ≤ vec_capacity rows },
     ghost few: { vec_len rows ≤ most_rows },
     ghost ascending: { rising 0 rows.items ≡ true },
+    ghost reach: { AllWithin quote farthest rows.items },
 }
 
 /// How many rows stand at most: those that rest, and one that is being entered.
@@ -85,6 +89,7 @@ impl Table {
         let rows = Vec::with_capacity(heap, MOST_ROWS)?;
         Ok(Table {
             rows,
+            farthest: NOWHERE,
             quote,
             ends: PerSide {
                 buy: None,
@@ -98,6 +103,7 @@ impl Table {
         ensures market { Becomes self.old self.new (with_quote quote.bid quote.offer) }
         ensures rows { self.new.rows ≡ self.old.rows }
     {
+        self.farthest = farthest_of(&self.rows, quote);
         self.quote = quote;
     }
 
@@ -197,6 +203,7 @@ impl Table {
         ensures market { Becomes self.old self.new (joined (row_order row)) }
     {
         self.rows.push_reserved(row);
+        self.farthest = widen(self.farthest, &row, self.quote);
     }
 
     /// Drops the newest row, whether it rests or not; an empty table stays as it is.

@@ -1,9 +1,11 @@
 use Rattle.std.proofs.cmp.Tests.{ltb_from_iff}
-use Rattle.std.proofs.Common.{◌≡◌, [], is_some, None, vec_items, vec_len, sym, ap, ◌∙◌, arith}
+use Rattle.std.proofs.Common.{◌≡◌, true, [], is_some, None, vec_items, vec_len, sym, ap, ◌∙◌, arith}
 use Rattle.std.specs.Option.{option_to_list}
 use Rattle.std.proofs.lemmas.List.{nil_from_length}
+use Rattle.std.proofs.lemmas.List.Elements.{All-pop}
 use Rattle.std.proofs.lemmas.Bool.{ltb-false}
 use Rattle.rules.specs.Market.{with_orders}
+use Rattle.market.specs.Reaches.{within}
 use Rattle.market.specs.Rows.{rising}
 use Rattle.market.specs.Seen.{market_with}
 use Rattle.market.proofs.Dropped.{rising_front, newest_gone}
@@ -13,6 +15,11 @@ pub invariant_of-self-clause-ascending : goal.invariant_of-self-clause-ascending
 invariant_of-self-clause-ascending c =
     let self = c.args.self.now in
     rising_front 0 (vec_items c.pop.new.self) (option_to_list c.pop.result) (ap (rising 0) (sym c.pop.ensures.items) ∙ self.ascending)
+
+pub invariant_of-self-clause-reach : goal.invariant_of-self-clause-reach
+invariant_of-self-clause-reach c =
+    let self = c.args.self.now in
+    (All-pop (λ r. within self.quote self.farthest r ≡ true) (vec_items self.rows) (vec_items c.pop.new.self) c.pop.result c.pop.ensures.items self.reach).0
 
 pub returns-clause-market : goal.returns-clause-market
 returns-clause-market c tape =

@@ -3,6 +3,7 @@ use Rattle.std.proofs.lemmas.Bool.{lt-ltb}
 use Rattle.rules.specs.Market.{with_orders}
 use Rattle.market.specs.Rows.{orders_in, rising, row_order}
 use Rattle.market.specs.Seen.{market_with}
+use Rattle.market.proofs.Reached.{within_pushed}
 use Rattle.market.proofs.Joined.{orders_in_append, orders_in_one, rising_push}
 use Rattle.market.proofs.table.Table.join.Goals as goal
 
@@ -11,6 +12,11 @@ invariant_of-self-clause-ascending c =
     let self = c.args.self.now in
     let rows = vec_items self.rows in
     ap (rising 0) c.push_reserved.ensures.items ∙ rising_push 0 rows c.args.row self.ascending c.requires.newest
+
+pub invariant_of-self-clause-reach : goal.invariant_of-self-clause-reach
+invariant_of-self-clause-reach c =
+    let self = c.args.self.now in
+    within_pushed self.quote self.farthest c.widen-self.result (vec_items self.rows) (vec_items c.push_reserved.new.self) c.args.row c.widen-self.ensures c.push_reserved.ensures.items self.reach
 
 pub returns-clause-market : goal.returns-clause-market
 returns-clause-market c tape =

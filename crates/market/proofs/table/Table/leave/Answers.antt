@@ -2,6 +2,7 @@ use Rattle.std.proofs.Common.{vec_items, sym, ap, ◌∙◌}
 use Rattle.rules.specs.Market.{with_orders, without}
 use Rattle.market.specs.Rows.{orders_in}
 use Rattle.market.specs.Seen.{market_with}
+use Rattle.market.proofs.Reached.{within_set}
 use Rattle.market.proofs.Changed.{without_at, without_by_number, absent, rising_set, only_shares}
 use Rattle.market.proofs.table.Table.leave.Goals as goal
 
@@ -9,6 +10,11 @@ pub invariant_of-self-clause-ascending : goal.invariant_of-self-clause-ascending
 invariant_of-self-clause-ascending c =
     let self = c.args.self.now in
     rising_set 0 (vec_items self.rows) c.in-Some.i c.index_mut-row.result.now 0 c.index_mut-row.ensures.value ∙ self.ascending
+
+pub invariant_of-self-clause-reach : goal.invariant_of-self-clause-reach
+invariant_of-self-clause-reach c =
+    let self = c.args.self.now in
+    within_set self.quote self.farthest (vec_items self.rows) c.in-Some.i c.index_mut-row.result.now 0 c.in-Some.ensures.within c.index_mut-row.ensures.value self.reach
 
 pub returns-in-Some : goal.returns-in-Some
 returns-in-Some c =
