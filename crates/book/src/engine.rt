@@ -36,8 +36,8 @@ impl<D: Directory, T: Tape> Engine<D, T> {
         if time < self.clock || time > LAST_MOMENT {
             return Err(Refusal::Time);
         }
-        let resting = self.market.table.len_resting();
-        if self.market.tape.free_lines() < resting {
+        let free = self.market.tape.free_lines();
+        if !self.market.table.rests_at_most(free) {
             return Err(Refusal::TapeShort);
         }
         Ok(())
@@ -55,13 +55,18 @@ impl<D: Directory, T: Tape> Engine<D, T> {
 
     /// Every period that is due has ended, at its own end, and what rests no more has left.
     pub(crate) fn bring_to(&mut self, time: u64)
-        requires { CanFollow T.Tape self.old.market time (settle time) }
+        requires follows { CanFollow T.Tape self.old.market time (settle time) }
+        requires rests { AllRest (rows_of self.old.market.table) }
         ensures book { book_of T.Tape self.new ≡ at_time time (book_of T.Tape self.old) }
         ensures tidied { Tidied D.Directory T.Tape self.old self.new }
     {
+        self.clock = time;
+        // mostly no period is due, and nobody leaves
+        if self.market.due(time).is_none() {
+            return;
+        }
         self.market.settle(time);
         self.tidy();
-        self.clock = time;
     }
 
     /// Every row that is left rests; the directory still has the pairs of the rows, and the market is as it was.
@@ -80,8 +85,8 @@ impl<D: Directory, T: Tape> Engine<D, T> {
     fn has_no_place(&self, terms: Terms) -> bool
         ensures { result ≡ no_place (terms_of terms) (market_of T.Tape self.now.market) }
     {
-        let resting = self.market.table.len_resting();
-        resting >= MOST_RESTING && terms.time_in_force == TimeInForce::Rest
+        terms.time_in_force == TimeInForce::Rest
+            && !self.market.table.rests_at_most(MOST_RESTING - 1)
     }
 
     /// The entry number that the order gets; the refusals are those that come once the clock is at the entry's time.

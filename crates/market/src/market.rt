@@ -131,7 +131,7 @@ impl<T: Tape> Market<T> {
     }
 
     /// The period that ends first, if its end has come by the time; the buy side's where both end together.
-    pub(crate) fn due(&self, time: u64) -> Option<(Side, u64)>
+    pub fn due(&self, time: u64) -> Option<(Side, u64)>
         ensures { result ≡ due_of time (market_of T.Tape self.now) }
     {
         let first = match (self.table.end(Side::Buy), self.table.end(Side::Sell)) {
@@ -159,10 +159,6 @@ impl<T: Tape> Market<T> {
         ensures follows { Follows T.Tape self.old self.new (settle_of time) }
         ensures nothing_due { NothingDueAt time (market_of T.Tape self.new) }
     {
-        // mostly no period is due, and nothing needs a count
-        if self.due(time).is_none() {
-            return;
-        }
         // counted as in the rule book, whose settling has so many turns
         let periods = self.table.len_resting() + 2;
         for _ in 0..periods {

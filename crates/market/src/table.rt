@@ -73,7 +73,7 @@ pub(crate) const MOST_ROWS: usize = MOST_RESTING + 1;
 
 impl Table {
     ghost use Rattle.std.specs.Option.{option_map};
-    ghost use Rattle.std.specs.Prelude.{IfOk, IsOk, MatchOption, None, OnErr, [], if◌then◌else◌, is_ok, length, nat_lt, slice_index_or, take, ◌&&◌, ◌++◌, ◌+◌, ◌-◌, ◌<◌, ◌↔◌, ◌∷◌};
+    ghost use Rattle.std.specs.Prelude.{IfOk, IsOk, MatchOption, None, OnErr, [], if◌then◌else◌, is_ok, length, nat_le, nat_lt, slice_index_or, take, ◌&&◌, ◌++◌, ◌+◌, ◌-◌, ◌<◌, ◌↔◌, ◌∷◌};
     ghost use Rattle.market.specs.Changes.{AllRest, FirstSpent, OnlySharesOf, RestsAt, Retired, newest_number};
     ghost use Rattle.market.specs.Joining.{CanJoin};
     ghost use Rattle.market.specs.Rows.{row_order};
@@ -194,6 +194,13 @@ impl Table {
         ensures { result ≡ length (orders_of self.now) }
     {
         self.rows.iter().filter(|row| row.rests()).count()
+    }
+
+    /// Whether at most so many orders rest. No more rest than stand, so that they are counted only where the rows are more.
+    pub fn rests_at_most(&self, count: usize) -> bool
+        ensures { result ≡ nat_le (length (orders_of self.now)) count }
+    {
+        self.rows.len() <= count || self.len_resting() <= count
     }
 
     /// Adds a row behind the others.

@@ -8,7 +8,11 @@ returns-in_err-check g c =
     rw (p.1, p.2) (begun_refused g.D.Directory g.T.Tape c.args.self.now c.args.time c.in_err-check.field-0.0 c.in_err-check.ensures c.requires)
 
 pub bring_to-requires : goal.bring_to-requires
-bring_to-requires g c = can_settle g.D.Directory g.T.Tape c.args.self.now c.args.time c.in_ok-check.ensures c.requires
+bring_to-requires g c =
+    record {
+      follows = can_settle g.D.Directory g.T.Tape c.args.self.now c.args.time c.in_ok-check.ensures c.requires;
+      rests = c.requires.rests;
+    }
 
 pub returns : goal.returns
 returns g c =

@@ -1,11 +1,11 @@
-use Rattle.std.proofs.Common.{refl, ◌≡◌, ℕ, suc, ◌+◌, ◌-◌, ◌≤◌, length, vec_items, sym, ap, ◌∙◌, subst, arith}
+use Rattle.std.proofs.Common.{◌≡◌, ℕ, suc, ◌+◌, ◌-◌, ◌≤◌, length, vec_items, sym, ap, ◌∙◌, subst, arith}
 use Rattle.rules.specs.Clock.{end_periods, end_period, settle}
 use Rattle.rules.proofs.Settle.{due_is, ends_none, ends_some}
 use Rattle.market.proofs.Found.{resting_few}
 use Rattle.market.specs.Markets.{market_of, capacity_of}
 use Rattle.market.proofs.Settled.{settle_ends, end_free, ends_over}
 use Rattle.market.proofs.Ended.{settle_ended}
-use Rattle.market.proofs.Underway.{arrived, unmoved, none_from}
+use Rattle.market.proofs.Underway.{arrived}
 use Rattle.market.proofs.market.Market.settle.Goals as goal
 use Rattle.market.proofs.market.Market.settle.Goals.{In-Some}
 use Rattle.market.proofs.market.Market.settle.Given.{Over}
@@ -59,12 +59,3 @@ returns g c =
     let follows =
     arrived g.T.Tape c.args.self.now c.loop.self (settle c.args.time) _ _ e c.loop.invariant (λ so. so ∙ ends_over _ c.args.time (market_of g.T.Tape c.loop.self) (omega (arith, c.loop-test.false))) in
     record { follows = follows; nothing_due = settle_ended g.T.Tape c.args.self.now c.loop.self c.args.time follows }
-
-pub returns-then-is_none : goal.returns-then-is_none
-returns-then-is_none g c =
-    let here = market_of g.T.Tape c.args.self.now in
-    let follows =
-    unmoved g.T.Tape c.args.self.now (settle c.args.time)
-    (settle_ends c.args.time (length here.orders + 2) here refl
-    ∙ ends_none (length here.orders + 2) c.args.time here (sym c.due.ensures ∙ none_from c.due.result c.if-is_none.ensures)) in
-    record { follows = follows; nothing_due = settle_ended g.T.Tape c.args.self.now c.args.self.now c.args.time follows }
