@@ -1,5 +1,5 @@
 -- A sweep, line by line. Cite lines_go for a line, lines_gone and lines_alone where it ends, line_room for the tape.
-use Rattle.std.proofs.Common.{◌≡◌, ℕ, zero, suc, ◌+◌, ◌≤◌, Bool, true, false, ◌&&◌, List, [], ◌∷◌, length, Some, None, fold, Option, sym, refl, ap, ◌∙◌, arith, length-append}
+use Rattle.std.proofs.Common.{◌≡◌, ℕ, zero, suc, ◌+◌, ◌≤◌, Bool, true, false, ◌&&◌, List, [], ◌∷◌, length, Some, None, fold, Option, inl, inr, sym, refl, ap, ◌∙◌, arith, length-append}
 use Rattle.std.specs.Prelude.{if◌then◌else◌}
 use Rattle.terms.specs.Sides.{opposite, same_side, meets}
 use Rattle.terms.specs.declared.side.Side.{Side}
@@ -8,7 +8,10 @@ use Rattle.tape.specs.declared.line.Line.{Line}
 use Rattle.rules.specs.Market.{Order, Market, side_of, ranked_in, reach_in, resting, lower, with_orders}
 use Rattle.rules.specs.Priority.{ahead, better_of, next_partner, partner_for, line_price}
 use Rattle.rules.specs.Sweep.{depletes, traded, after_trade, recorded, trade, lines, sweep}
-use Rattle.rules.proofs.Cases.{option_none, option_some}
+use Rattle.rules.proofs.Calm.{lines_finish}
+use Rattle.rules.proofs.Cases.{option_cases, option_none, option_some}
+use Rattle.rules.proofs.Rows.{resting_in}
+use Rattle.rules.proofs.Trade.{trade_shorter, partner_rests}
 use Rattle.rules.proofs.Lasting.{lines_keep}
 use Rattle.market.specs.Seen.{market_with, seen}
 use Rattle.market.specs.declared.table.Table.{Table}
@@ -78,11 +81,33 @@ module _ (t p : ℕ) (o : Order) where
   lines_longer n m =
       lines_keep (λ r. length m.tape ≤ length r.tape) t p o (λ r row x _ _ h. omega (arith, h, trade_longer t p row x r)) n m (omega arith)
 
--- a sweep is its lines, with as many turns as orders rest and the reach as price
-pub sweep_lines : (ls : List Line) (b : Table) (t : ℕ) (o : Order) (turns price : ℕ) → turns ≡ length (seen b).orders → price ≡ reach_in (seen b) o → sweep t o (market_with ls b) ≡ lines turns t price o (market_with ls b)
+  -- each line ends an order: more turns than orders rest make no more lines
+  lines_enough : (n k : ℕ) (m : Market) → length m.orders ≤ n → n ≤ k → lines n t p o m ≡ lines k t p o m
+  unfolding lines
+  lines_enough zero k m few more =
+      elim (lines_finish t p o zero m few) [
+        | inl e ↦ sym (lines_gone k m e)
+        | inr f ↦ sym (lines_idle k m f)
+      ]
+  lines_enough (suc n) zero m few more = absurd (omega arith)
+  lines_enough (suc n) (suc k) m few more =
+      elim (option_cases (resting o.number m.orders)) [
+        | inl e ↦ lines_gone (suc n) m e ∙ sym (lines_gone (suc k) m e)
+        | inr (row, e) ↦
+            elim (option_cases (partner_for o p m)) [
+              | inl f ↦ lines_idle (suc n) m f ∙ sym (lines_idle (suc k) m f)
+              | inr (x, f) ↦
+                  lines_go n m row x e f
+                  ∙ lines_enough n k (trade t p row x m) (omega (arith, trade_shorter t p row x m (resting_in o.number m.orders row e).0 (partner_rests o p m x f).0)) (omega arith)
+                  ∙ sym (lines_go k m row x e f)
+            ]
+      ]
+
+-- a sweep is its lines, with no fewer turns than orders rest and the reach as price
+pub sweep_lines : (ls : List Line) (b : Table) (t : ℕ) (o : Order) (turns price : ℕ) → length (seen b).orders ≤ turns → price ≡ reach_in (seen b) o → sweep t o (market_with ls b) ≡ lines turns t price o (market_with ls b)
 unfolding sweep
 sweep_lines ls b t o turns price e f =
-    ap (λ n. lines n t (reach_in (market_with ls b) o) o (market_with ls b)) (sym e)
+    lines_enough t (reach_in (market_with ls b) o) o (length (seen b).orders) turns (market_with ls b) (omega arith) e
     ∙ ap (λ p. lines turns t p o (market_with ls b)) (sym (f ∙ reach_still ls b o))
 
 -- a line that is still to be made has room, if the whole sweep has

@@ -16,10 +16,6 @@ pub arrived : {T : Type 0} (t : TapeOf T) (old now : TableAndTape T) (rule : Mar
     → rule (market_of t old) ≡ whole → Underway t old now So → (So → whole ≡ market_of t now) → Follows t old now rule
 arrived t old now rule whole So e u over = record { market = sym (e ∙ over u.so); capacity = u.capacity; rows = u.rows }
 
--- a rule that leaves the market as it is
-pub unmoved : {T : Type 0} (t : TapeOf T) (old : TableAndTape T) (rule : Market → Market) → rule (market_of t old) ≡ market_of t old → Follows t old old rule
-unmoved t old rule e = record { market = sym e; capacity = refl; rows = refl }
-
 pub none_from : {A : Type 0} (o : Option A) → is_some o ≡ false → o ≡ None
 none_from None e = refl
 none_from (Some x) e = cc

@@ -50,17 +50,14 @@ impl<T: Tape> Market<T> {
         ensures finished { FilledOrAlone (row_order taker.now) (reach_in (market_of T.Tape self.old) (row_order taker.now)) (market_of T.Tape self.new) }
     {
         let price = self.table.reach(taker);
-        // most sweeps find no partner, and need no count
-        if self.table.partner_for(taker, price).is_none() {
-            return;
-        }
-        // counted as in the rule book, whose sweep has so many turns
-        let turns = self.table.len_resting();
+        // no more orders rest than rows stand, so these turns are enough too
+        let turns = self.table.len();
         for _ in 0..turns {
-            let Some(row) = self.table.row(taker.number) else {
+            // asked first, since most sweeps find none
+            let Some(partner) = self.table.partner_for(taker, price) else {
                 return;
             };
-            let Some(partner) = self.table.partner_for(taker, price) else {
+            let Some(row) = self.table.row(taker.number) else {
                 return;
             };
             self.line(time, price, &row, &partner);
