@@ -4,6 +4,7 @@ ghost use Rattle.register.specs.Parts.{taken_of};
 ghost use Rattle.register.specs.Reading.{take_field as take_field_of};
 
 // The tags of the fields of an order.
+
 pub(crate) const IDENTIFIER: u8 = 1;
 
 pub(crate) const CODES: u8 = 2;

@@ -6,8 +6,8 @@ use Rattle.rules.specs.Clock.{due}
 use Rattle.rules.specs.Calls.{Call}
 use Rattle.rules.specs.Runs.{opened, run}
 
--- the taker is filled, so that no order with its entry number rests, or it is alone: no order of the other side is a partner for
--- it at the price, which is its reach when its sweep began
+-- the taker is filled, so that no order with its entry number rests, or it is alone: at the price it has no partner. The price is
+-- the taker's reach when its sweep began
 abbrev pub FilledOrAlone : Order → ℕ → Market → Type 0
 FilledOrAlone taker price market = (resting taker.number market.orders ≡ None) ⊎ (partner_for taker price market ≡ None)
 
