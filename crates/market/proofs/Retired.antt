@@ -1,14 +1,15 @@
 -- A row that rests no more can be dropped: the orders stay, and so do ascending numbers. By induction over the rows before it.
--- Cite: orders_in_dropped, rising_dropped for the row between two parts; first_spent for the first row that rests no more.
-use Rattle.std.proofs.Common.{◌≡◌, ℕ, suc, ◌<◌, ◌≤◌, Bool, true, false, not, ltb, List, [], ◌∷◌, ◌++◌, map, length, get_or, take, drop, sym, refl, ap, ◌∙◌, arith, drop-cons, MatchOption}
-use Rattle.std.proofs.lemmas.List.{length-map, take-append-drop}
-use Rattle.std.proofs.lemmas.Bool.{ltb-true, lt-ltb, and_parts, and_from}
+-- Cite: orders_in_dropped, rising_dropped for the row between two parts; first_spent for the first row that rests no more;
+-- rests_pushed and rests_front for rows that all rest.
+use Rattle.std.proofs.Common.{◌≡◌, ℕ, suc, ◌<◌, ◌≤◌, Bool, true, false, not, ltb, List, [], ◌∷◌, ◌++◌, map, length, get_or, take, drop, inl, inr, sym, refl, ap, ◌∙◌, arith, drop-cons, MatchOption}
+use Rattle.std.proofs.lemmas.List.{length-map, map-append, take-append-drop}
+use Rattle.std.proofs.lemmas.Bool.{ltb-true, lt-ltb, and_parts, and_from, cases_Bool}
 use Rattle.std.specs.List.{remove, position}
 use Rattle.market.specs.declared.table.Row.{Row}
 use Rattle.market.specs.Rows.{row_order, rising, rests, orders_in}
 use Rattle.market.specs.Changes.{AllRest, FirstSpent, Retired}
-use Rattle.market.proofs.Found.{orders_in_resting, orders_in_spent, first}
-use Rattle.market.proofs.Joined.{orders_in_append, orders_in_none}
+use Rattle.market.proofs.Found.{orders_in_resting, orders_in_spent, resting_few, first}
+use Rattle.market.proofs.Joined.{orders_in_append, orders_in_none, orders_in_one}
 
 pub orders_in_dropped : (xs : List Row) (r : Row) (ys : List Row) → rests r ≡ false → orders_in (xs ++ ys) ≡ orders_in (xs ++ r ∷ ys)
 orders_in_dropped xs r ys f =
@@ -36,6 +37,29 @@ all_rest rs e = record { orders = e; count = sym (length-map rs row_order) ∙ a
 pub rests_none : AllRest []
 rests_none = all_rest [] (sym orders_in_none)
 
+rests_too : (r : Row) (rs : List Row) → rests r ≡ true → AllRest rs → AllRest (r ∷ rs)
+rests_too r rs t all = all_rest (r ∷ rs) (ap (λ os. row_order r ∷ os) all.orders ∙ sym (orders_in_resting r rs t))
+
+rests_apart : (r : Row) (rs : List Row) → AllRest (r ∷ rs) → (rests r ≡ true) × AllRest rs
+rests_apart r rs all =
+    elim (cases_Bool (rests r)) [
+      | inl t ↦ (t, all_rest rs (ap (drop 1) (all.orders ∙ orders_in_resting r rs t)))
+      | inr f ↦ absurd (omega (arith, all.count, ap length (orders_in_spent r rs f), resting_few rs))
+    ]
+
+-- a row that rests joins rows that all rest
+pub rests_pushed : (rs : List Row) (r : Row) → rests r ≡ true → AllRest rs → AllRest (rs ++ r ∷ [])
+rests_pushed rs r t all =
+    all_rest (rs ++ r ∷ [])
+    (map-append row_order rs (r ∷ []) ∙ ap (λ os. os ++ row_order r ∷ []) all.orders ∙ ap (λ os. orders_in rs ++ os) (sym (orders_in_one r t)) ∙ sym (orders_in_append rs (r ∷ [])))
+
+-- of rows that all rest, the first ones do
+pub rests_front : (xs ys : List Row) → AllRest (xs ++ ys) → AllRest xs
+rests_front [] ys all = rests_none
+rests_front (x ∷ xs) ys all =
+    let parts = rests_apart x (xs ++ ys) all in
+    rests_too x xs parts.0 (rests_front xs ys parts.1)
+
 pub first_spent : (rs : List Row) → MatchOption (position (λ r. not (rests r)) rs) (AllRest rs) (FirstSpent rs)
 first_spent =
     first (λ r. not (rests r)) (λ rs i. FirstSpent rs i) AllRest
@@ -51,9 +75,6 @@ first_spent =
     not-false : (b : Bool) → not b ≡ false → b ≡ true
     not-false true e = refl
     not-false false e = cc
-
-    rests_too : (r : Row) (rs : List Row) → rests r ≡ true → AllRest rs → AllRest (r ∷ rs)
-    rests_too r rs t all = all_rest (r ∷ rs) (ap (λ os. row_order r ∷ os) all.orders ∙ sym (orders_in_resting r rs t))
 
 -- the rows about the one at i
 pub parted : (rs : List Row) (i : ℕ) (r : Row) → i < length rs → r ≡ get_or rs i r → rs ≡ take i rs ++ r ∷ drop (suc i) rs

@@ -1,8 +1,9 @@
 //! The order table, with what the prices of its orders depend on.
+ghost use Rattle.market.specs.Changes.{AllRest};
 ghost use Rattle.market.specs.Reaches.{AllWithin};
 ghost use Rattle.market.specs.Rows.{most_rows, rests, rests as rests_of, rising, row_order};
 ghost use Rattle.rules.specs.Sweep.{displayed as displayed_of, shows as shows_of};
-ghost use Rattle.std.specs.Prelude.{if◌then◌else◌, true, vec_capacity, vec_len, ◌&&◌, ◌≡◌, ◌≤◌};
+ghost use Rattle.std.specs.Prelude.{false, if◌then◌else◌, true, vec_capacity, vec_len, ◌&&◌, ◌≡◌, ◌≤◌};
 ghost use Rattle.terms.specs.Sides.{same_side};
 
 use crate::reaches::{NOWHERE, farthest_of, widen};
@@ -55,17 +56,20 @@ impl Row {
 }
 
 /// Rows stand by ascending entry number: 64 may rest, and one more may stand while it is being entered. The ends are those of
-/// the sides' protection periods, where they run. No row of a side reaches farther than the side's bound.
+/// the sides' protection periods, where they run. No row of a side reaches farther than the side's bound, `farthest`. Some
+/// row may be `spent`, with no shares left; where none is, every row rests.
 #[derive(Drop)]
 pub struct Table {
     pub(crate) rows: Vec<Row>,
     pub(crate) farthest: PerSide<u32>,
+    pub(crate) spent: bool,
     pub(crate) quote: Quote,
     pub(crate) ends: PerSide<Option<u64>>,
     ghost room: { most_rows ≤ vec_capacity rows },
     ghost few: { vec_len rows ≤ most_rows },
     ghost ascending: { rising 0 rows.items ≡ true },
     ghost reach: { AllWithin quote farthest rows.items },
+    ghost whole: { spent ≡ false → AllRest rows.items },
 }
 
 /// How many rows stand at most: those that rest, and one that is being entered.
@@ -74,7 +78,7 @@ pub(crate) const MOST_ROWS: usize = MOST_RESTING + 1;
 impl Table {
     ghost use Rattle.std.specs.Option.{option_map};
     ghost use Rattle.std.specs.Prelude.{IfOk, IsOk, MatchOption, None, OnErr, [], if◌then◌else◌, is_ok, length, nat_le, nat_lt, slice_index_or, take, ◌&&◌, ◌++◌, ◌+◌, ◌-◌, ◌<◌, ◌↔◌, ◌∷◌};
-    ghost use Rattle.market.specs.Changes.{AllRest, FirstSpent, OnlySharesOf, RestsAt, Retired, newest_number};
+    ghost use Rattle.market.specs.Changes.{FirstSpent, OnlySharesOf, RestsAt, Retired, newest_number};
     ghost use Rattle.market.specs.Joining.{CanJoin};
     ghost use Rattle.market.specs.Rows.{row_order};
     ghost use Rattle.market.specs.Seen.{Becomes, orders_of, quote_of, rows_of, seen};
@@ -90,6 +94,7 @@ impl Table {
         Ok(Table {
             rows,
             farthest: NOWHERE,
+            spent: false,
             quote,
             ends: PerSide {
                 buy: None,
@@ -230,6 +235,7 @@ impl Table {
         if let Some(i) = self.index_of(number) {
             let row = &mut self.rows[i];
             row.left = 0;
+            self.spent = true;
         }
     }
 
@@ -242,6 +248,7 @@ impl Table {
         if let Some(i) = self.index_of(number) {
             let row = &mut self.rows[i];
             row.left = row.left.saturating_sub(shares);
+            self.spent = true;
         }
     }
 
@@ -261,8 +268,13 @@ impl Table {
             (λ identifier. Retired (rows_of self.old) (rows_of self.new) identifier) }
         ensures count { MatchOption result (length (rows_of self.new) ≡ length (rows_of self.old)) (λ _. length (rows_of self.new) + 1 ≡ length (rows_of self.old)) }
     {
+        // mostly nobody has left
+        if !self.spent {
+            return None;
+        }
         let i = self.first_spent()?;
         let row = self.rows.remove(i);
+        self.spent = self.first_spent().is_some();
         Some(row.identifier)
     }
 }

@@ -1,8 +1,10 @@
-use Rattle.std.proofs.Common.{◌≡◌, [], ◌∷◌, ◌++◌, vec_items, ap, ◌∙◌}
+use Rattle.std.proofs.Common.{subst, ◌≡◌, [], ◌∷◌, ◌++◌, vec_items, sym, ap, ◌∙◌}
 use Rattle.std.proofs.lemmas.Bool.{lt-ltb}
 use Rattle.rules.specs.Market.{with_orders}
 use Rattle.market.specs.Rows.{orders_in, rising, row_order}
 use Rattle.market.specs.Seen.{market_with}
+use Rattle.market.specs.Changes.{AllRest}
+use Rattle.market.proofs.Retired.{rests_pushed}
 use Rattle.market.proofs.Reached.{within_pushed}
 use Rattle.market.proofs.Joined.{orders_in_append, orders_in_one, rising_push}
 use Rattle.market.proofs.table.Table.join.Goals as goal
@@ -17,6 +19,11 @@ pub invariant_of-self-clause-reach : goal.invariant_of-self-clause-reach
 invariant_of-self-clause-reach c =
     let self = c.args.self.now in
     within_pushed self.quote self.farthest c.widen-self.result (vec_items self.rows) (vec_items c.push_reserved.new.self) c.args.row c.widen-self.ensures c.push_reserved.ensures.items self.reach
+
+pub invariant_of-self-clause-whole : goal.invariant_of-self-clause-whole
+invariant_of-self-clause-whole c kept =
+    let row = c.args.row in
+    subst AllRest (sym c.push_reserved.ensures.items) (rests_pushed (vec_items c.args.self.now.rows) row (lt-ltb 0 row.left c.requires.some) (c.args.self.now.whole kept))
 
 pub returns-clause-market : goal.returns-clause-market
 returns-clause-market c tape =
