@@ -1,4 +1,7 @@
 //! A call as it comes in, in numbers.
+ghost use Rattle.std.specs.Prelude.{◌≡◌};
+ghost use Rattle.bench_book.specs.Numbers.{draft_of, identifier_of};
+
 use terms::Draft;
 
 /// `what` is 1 for an entry, 2 for a cancel, 3 for a quote, 4 for a tick; what a call of its kind does not have counts for nothing.
@@ -22,7 +25,9 @@ pub struct Asked {
 
 impl Asked {
     /// What an entry's ticket is made from.
-    pub(crate) fn draft(&self) -> Draft {
+    pub(crate) fn draft(&self) -> Draft
+        ensures { result ≡ draft_of self.now }
+    {
         Draft {
             side: self.side,
             kind: self.kind,
@@ -35,7 +40,9 @@ impl Asked {
     }
 
     /// The identifier's bytes, at most twenty.
-    pub(crate) fn identifier(&self) -> &[u8] {
+    pub(crate) fn identifier(&self) -> &[u8]
+        ensures { result.now ≡ identifier_of self.now }
+    {
         let len = usize::from(self.id_len).min(20);
         &self.id[..len]
     }
