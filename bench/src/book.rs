@@ -11,6 +11,7 @@ const MOST_ENTRIES: u32 = 1_000_000;
 const LAST_MOMENT: u64 = 86_399_999_999;
 const PROTECTION_PERIOD: u64 = 2_000;
 const ROUND_LOT: u32 = 100;
+/// The refusal of numbers that are no kind of call.
 const UNKNOWN: u32 = 255;
 
 /// What is swept when something new happens.

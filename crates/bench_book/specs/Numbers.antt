@@ -36,7 +36,7 @@ in_numbers told = record { number = told.number; values = take 3 (told.values ++
 abbrev pub refused_by : ℕ → Told
 refused_by number = record { number = number; values = 0 ∷ (0 ∷ (0 ∷ [])) }
 
--- the call that the numbers make, or the number by which they are refused
+-- the refusal of numbers that are no kind of call
 abbrev pub unknown : ℕ
 unknown = 255
 
@@ -48,6 +48,7 @@ abbrev pub quoted_from : ℕ → Result (ℕ × ℕ) Refusal → Result Call ℕ
 quoted_from time (Ok prices) = Ok (quote time prices.0 prices.1)
 quoted_from time (Err why) = Err (refusal_number why)
 
+-- the call that the numbers make, or the number by which they are refused
 abbrev pub call_from : Asked → Result Call ℕ
 call_from asked =
     if asked.what == 1 then entry_from asked.time (identifier_of asked) (ticket_from (draft_of asked))

@@ -20,6 +20,7 @@ pub struct Told {
     pub values: [u32; 3],
 }
 
+// The refusal of numbers that are no kind of call; no refusal of the book has it.
 const UNKNOWN: u32 = 255;
 
 fn done(first: u32, second: u32, third: u32) -> Told
