@@ -61,6 +61,10 @@ impl<T: Tape> Market<T> {
                 return;
             };
             self.line(time, price, &row, &partner);
+            // mostly it is filled then, and wants no other partner
+            if self.table.index_of(taker.number).is_none() {
+                return;
+            }
         }
     }
 

@@ -7,7 +7,7 @@ use Rattle.market.specs.Markets.{market_of, capacity_of}
 use Rattle.market.proofs.Lined.{partner_still, sweep_lines, lines_none, lines_gone, lines_idle, lines_go, line_room}
 use Rattle.market.proofs.Found.{resting_few}
 use Rattle.market.proofs.Ended.{sweep_ended}
-use Rattle.market.proofs.Underway.{arrived}
+use Rattle.market.proofs.Underway.{arrived, told_none}
 use Rattle.market.proofs.market.Market.sweep.Goals as goal
 use Rattle.market.proofs.market.Market.sweep.Goals.{In-Some-row}
 use Rattle.market.proofs.market.Market.sweep.Given.{Over}
@@ -67,3 +67,14 @@ returns g c =
     let follows =
     arrived g.T.Tape c.args.self.now c.loop.self (sweep c.args.time o) _ _ e c.loop.invariant (λ so. so ∙ lines_none c.args.time c.reach-price.result o _ (market_of g.T.Tape c.loop.self) (omega (arith, c.loop-test.false))) in
     record { follows = follows; finished = sweep_ended g.T.Tape c.args.self.now c.loop.self c.args.time o follows }
+
+pub returns-then-is_none-clause-follows : goal.returns-then-is_none-clause-follows
+returns-then-is_none-clause-follows g c =
+    let o = row_order c.args.taker.now in
+    let e = sweep_lines (g.T.Tape.lines c.args.self.now.tape) c.args.self.now.table c.args.time o c.len-turns.result c.reach-price.result (rw c.len-turns.ensures (resting_few (vec_items c.args.self.now.table.rows))) c.reach-price.ensures in
+    let so = goes g (goal.at.returns-then-is_none-clause-follows g c).In-Some-row ∙ ap (lines _ c.args.time c.reach-price.result o) (sym c.line.ensures.market) in
+    record {
+      market = sym (e ∙ (so ∙ lines_gone c.args.time c.reach-price.result o _ (market_of g.T.Tape c.line.new.self) (told_none _ c.index_of.result c.if-is_none.ensures c.index_of.ensures)));
+      capacity = c.line.ensures.capacity ∙ c.loop.invariant.capacity;
+      rows = c.line.ensures.rows ∙ c.loop.invariant.rows;
+    }
