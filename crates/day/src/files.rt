@@ -1,20 +1,29 @@
 //! The two commands that reach files. A file is written whole or not at all.
 use anyhow::Context;
-use day_file::{Desk, Output};
+use day_file::{BadLine, Desk, Expected, Output};
 use directory::Directory;
 use std::fs::{File, Permissions};
 use std::io::{ErrorKind, Write};
 use std::{fs, io};
 use tape::Tape;
 
+// A name that is no text is no name of a file.
+fn text(file: &[u8], line: u64, expected: Expected) -> Result<&str, BadLine> {
+    std::str::from_utf8(file).map_err(|_| BadLine {
+        number: line,
+        expected,
+    })
+}
+
 pub fn load<D: Directory, T: Tape>(
     rt: &HostRuntime,
     line: u64,
     desk: &mut Desk<D, T>,
     time: u64,
-    file: &str,
+    file: &[u8],
     out: &mut Output,
 ) -> anyhow::Result<()> {
+    let file = text(file, line, Expected::Load)?;
     let register = fs::read(rt, file).context(format_args!("line {line}: cannot read {file}"))?;
     Ok(desk.load(time, register.as_slice(), out)?)
 }
@@ -28,15 +37,44 @@ fn fill(mut file: File, bytes: &[u8], mode: Option<Permissions>) -> io::Result<(
     file.sync_all()
 }
 
-// Writes FILE.new, and gives it the name of the file, which is the old one until then. Where that fails, no FILE.new is left.
+// The signs that stand in the place of a name's last one where FILE.new is no name for a new file.
+const LAST_SIGNS: [char; 8] = ['~', '^', '=', '+', '%', '@', '!', ','];
+
+// A file that was not there, beside the one of that path, and its own path: FILE.new, or, where there is one or its name is too
+// long, FILE with another last sign. So no file is touched that the day does not name.
+fn create_beside(rt: &HostRuntime, path: &str) -> io::Result<(File, String)> {
+    let usual = format!(in rt.alloc(); "{path}.new")?;
+    let why = match File::create_new(rt, usual.as_str()) {
+        Ok(file) => return Ok((file, usual)),
+        Err(why) => why,
+    };
+    if !matches!(
+        why.kind(),
+        ErrorKind::AlreadyExists | ErrorKind::InvalidFilename
+    ) {
+        return Err(why);
+    }
+    let mut front = path.chars();
+    let last = front.next_back();
+    for sign in LAST_SIGNS {
+        let name = format!(in rt.alloc(); "{}{sign}", front.as_str())?;
+        if last != Some(sign) {
+            if let Ok(file) = File::create_new(rt, name.as_str()) {
+                return Ok((file, name));
+            }
+        }
+    }
+    Err(why)
+}
+
+// Writes a new file, and gives it the name of the path, which is the old one until then. Where that fails, no new file is left.
 fn replace_whole(
     rt: &HostRuntime,
     path: &str,
     bytes: &[u8],
     mode: Option<Permissions>,
 ) -> io::Result<()> {
-    let new = format!(in rt.alloc(); "{path}.new")?;
-    let file = File::create(rt, new.as_str())?;
+    let (file, new) = create_beside(rt, path)?;
     let replaced = fill(file, bytes, mode).and_then(|()| fs::rename(rt, new.as_str(), path));
     if replaced.is_err() {
         let _ = fs::remove_file(rt, new.as_str());
@@ -45,11 +83,15 @@ fn replace_whole(
 }
 
 // Puts the bytes in the place of what the file held. It is opened first as if it were written in place, so that it is refused where
-// it may not be written. A link stays, and what it names is replaced; what is no plain file, as a terminal or a pipe, is written.
+// it may not be written. A link stays, and what it names is replaced, or made; what is no plain file, as a terminal or a pipe, is
+// written, and so is a file that a link names whose own path cannot be told.
 fn replace(rt: &HostRuntime, path: &str, bytes: &[u8]) -> io::Result<()> {
-    let mut file = match File::options().write(true).open(rt, path) {
+    let link = fs::symlink_metadata(rt, path).is_ok_and(|there| there.is_symlink());
+    let mut file = match File::options().write(true).create(link).open(rt, path) {
         Ok(file) => file,
-        Err(e) if e.kind() == ErrorKind::NotFound => return replace_whole(rt, path, bytes, None),
+        Err(e) if e.kind() == ErrorKind::NotFound && !link => {
+            return replace_whole(rt, path, bytes, None);
+        }
         Err(e) => return Err(e),
     };
     let there = file.metadata()?;
@@ -57,8 +99,13 @@ fn replace(rt: &HostRuntime, path: &str, bytes: &[u8]) -> io::Result<()> {
         return file.write_all(bytes);
     }
     let mode = Some(there.permissions());
-    let named = fs::canonicalize(rt, path)?;
-    replace_whole(rt, named.as_path().as_str(), bytes, mode)
+    if !link {
+        return replace_whole(rt, path, bytes, mode);
+    }
+    match fs::canonicalize(rt, path) {
+        Ok(named) => replace_whole(rt, named.as_path().as_str(), bytes, mode),
+        Err(_) => fs::write(rt, path, bytes),
+    }
 }
 
 /// A register of 64 orders fits: each takes at most 49 bytes. It is told once it stands in the file.
@@ -66,9 +113,10 @@ pub fn write<D: Directory, T: Tape>(
     rt: &HostRuntime,
     line: u64,
     desk: &Desk<D, T>,
-    file: &str,
+    file: &[u8],
     out: &mut Output,
 ) -> anyhow::Result<()> {
+    let file = text(file, line, Expected::Write)?;
     let mut buffer = [0u8; 4096];
     let written = match desk.write(&mut buffer) {
         Ok(written) => written,

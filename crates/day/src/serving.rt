@@ -1,15 +1,27 @@
 //! The day file on standard input, and a book of any makes that answers it.
 use crate::files::{load, write};
-use anyhow::Context;
 use day_file::{Command, Desk, Frame, Opening, Output, Serve};
 use directory::Directory;
-use std::io;
+use std::error::Error;
 use std::io::{BufRead, BufReader, Stdin, Write};
 use std::ops::ControlFlow;
+use std::{fmt, io};
 use tape::Tape;
 
 // So much is gathered before it is printed, where more input is at hand.
 const GATHERED: usize = 65536;
+
+// Why standard input is not read on. A small error of its own: a general one would be carried along with each line that is read.
+#[derive(Debug, Drop)]
+struct NotRead(io::Error);
+
+impl fmt::Display for NotRead {
+    fn fmt<W: fmt::Write>(&self, f: &mut fmt::Formatter<W>) -> fmt::Result {
+        write!(f, "cannot read standard input: {}", self.0)
+    }
+}
+
+impl Error for NotRead {}
 
 /// The lines of standard input.
 #[derive(Drop)]
@@ -27,12 +39,12 @@ impl Input {
     }
 
     // Reads the next line; None at the end.
-    fn next_line(&mut self) -> anyhow::Result<Option<&[u8]>> {
+    fn next_line(&mut self) -> Result<Option<&[u8]>, NotRead> {
         self.text.clear();
         let count = self
             .reader
             .read_until(b'\n', &mut self.text)
-            .context("cannot read standard input")?;
+            .map_err(NotRead)?;
         Ok((count > 0).then_some(self.text.as_slice()))
     }
 

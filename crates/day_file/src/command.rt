@@ -37,10 +37,10 @@ pub enum Command<'a> {
     },
     Load {
         time: u64,
-        file: &'a str,
+        file: &'a [u8],
     },
     Write {
-        file: &'a str,
+        file: &'a [u8],
     },
     Close,
 }
@@ -172,14 +172,9 @@ impl<'a> Words<'a> {
         Some(Command::Book { bid, offer, lines })
     }
 
-    // A name that is no text is no name of a file.
-    fn file(&mut self) -> Option<&'a str> {
-        std::str::from_utf8(self.next()?).ok()
-    }
-
     fn load(&mut self) -> Option<Command<'a>> {
         let time = as_u64(self.number()?);
-        let file = self.file()?;
+        let file = self.next()?;
         Some(Command::Load { time, file })
     }
 
@@ -200,7 +195,7 @@ impl<'a> Words<'a> {
     }
 
     fn write(&mut self) -> Option<Command<'a>> {
-        let file = self.file()?;
+        let file = self.next()?;
         Some(Command::Write { file })
     }
 

@@ -1,6 +1,6 @@
 use anyhow::Context;
 use book::{Answer, Call};
-use day_file::{Command, Frame, SLIP_PLACES};
+use day_file::{BadLine, Command, Expected, Frame, SLIP_PLACES};
 use register::Reader;
 use std::alloc::{AllocError, Global};
 use std::fs;
@@ -111,6 +111,10 @@ pub fn read_day(rt: &HostRuntime, text: &[u8]) -> anyhow::Result<Option<Day>> {
             Some(Command::Close) => break,
             Some(Command::Load { time, file }) => {
                 let number = frame.line();
+                let file = std::str::from_utf8(file).map_err(|_| BadLine {
+                    number,
+                    expected: Expected::Load,
+                })?;
                 let register = fs::read(rt, file).context(format_args!(
                     "line {number}: cannot read {file}"
                 ))?;
