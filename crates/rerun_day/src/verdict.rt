@@ -166,8 +166,8 @@ impl Verdict {
     /// that borrow them are made.
     pub fn of(heap: Global, day: &Day, other_calls: &[Call]) -> anyhow::Result<Verdict> {
         let calls = day.calls.as_slice();
-        let mut records = record_room(heap, day.lines)?;
         let mut bytes = byte_room(heap, day.lines)?;
+        let mut records = record_room(heap, day.lines)?;
         let Ok((first, second)) = rerun(
             heap,
             day.quote,
