@@ -12,3 +12,4 @@ pub use entry::Entry;
 pub use hashed_directory::HashedDirectory;
 pub use probing::home_place;
 pub use row_directory::RowDirectory;
+pub use terms::{HIGHEST, LONGEST, LOWEST};

@@ -4,12 +4,14 @@ ghost use Rattle.std.specs.Prelude.{take, true, ◌≡◌, ◌≤◌};
 ghost use Rattle.terms.specs.Identifiers.{highest, lawful_identifier, longest, lowest};
 ghost use Rattle.terms.specs.Terms.{in_range};
 
-// The most bytes of an identifier, and the lowest and the highest byte.
-const LONGEST: usize = 20;
+/// The most bytes of an identifier.
+pub const LONGEST: usize = 20;
 
-const LOWEST: u8 = 33;
+/// The lowest byte of an identifier.
+pub const LOWEST: u8 = 33;
 
-const HIGHEST: u8 = 126;
+/// The highest byte of an identifier.
+pub const HIGHEST: u8 = 126;
 
 /// The first `len` of the bytes; the rest count for nothing, so two are compared as slices. The room for them is fixed:
 /// it is kept by value in memory that a book has from its opening, since no call allocates.

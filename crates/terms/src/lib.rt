@@ -11,7 +11,7 @@ mod side;
 mod ticket;
 mod time_in_force;
 
-pub use identifier::Identifier;
+pub use identifier::{HIGHEST, Identifier, LONGEST, LOWEST};
 pub use kind::Kind;
 pub use per_side::PerSide;
 pub use price::{HalfCents, TOP_PRICE, ranked_price, reach};
