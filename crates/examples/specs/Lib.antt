@@ -1,4 +1,5 @@
 pub mod Examples
+pub mod Names
 pub mod PriorityRuns
 pub mod RefusalRuns
 pub mod Table

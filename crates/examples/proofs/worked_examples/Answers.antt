@@ -18,3 +18,7 @@ returns-clause-told c = refl
 pub returns-clause-questions : goal.returns-clause-questions
 unfolding ranked_in reach_in resting without lower those next_partner best_displayed displayed_shares depletes trade lines sweep sweep_each end_period end_periods settle at_time swept_in named done_at call run placed ranking_of why
 returns-clause-questions c = (refl, refl, refl, refl, refl)
+
+pub returns-clause-names : goal.returns-clause-names
+unfolding ranked_in reach_in resting without lower those next_partner best_displayed displayed_shares depletes trade lines sweep sweep_each end_period end_periods settle at_time swept_in named done_at call
+returns-clause-names c = (refl, refl)
