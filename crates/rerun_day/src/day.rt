@@ -14,6 +14,7 @@ pub struct Day {
     /// how many lines the tape has room for
     pub lines: usize,
     pub calls: Vec<Call>,
+    /// those that may run out of places for slips
     pub loads: Vec<Load>,
 }
 
@@ -27,6 +28,12 @@ pub struct Load {
 }
 
 impl Load {
+    /// Whether it has more orders than there are places: no other load leaves a slip without one.
+    fn may_run_out(&self) -> bool {
+        let entries = self.end.saturating_sub(self.begin);
+        self.refused_tickets.saturating_add(entries) > SLIP_PLACES
+    }
+
     /// Each ticket and each entry that is refused takes a place. One slip more stops the load, and no order behind it is entered.
     pub fn runs_out(&self, answers: &[Answer]) -> bool {
         let own = answers.get(self.begin..self.end).unwrap_or(&[]);
@@ -118,7 +125,10 @@ pub fn read_day(rt: &HostRuntime, text: &[u8]) -> anyhow::Result<Option<Day>> {
                 let register = fs::read(rt, file).context(format_args!(
                     "line {number}: cannot read {file}"
                 ))?;
-                loads.push(entries(heap, time, register.as_slice(), &mut calls)?)?;
+                let load = entries(heap, time, register.as_slice(), &mut calls)?;
+                if load.may_run_out() {
+                    loads.push(load)?;
+                }
             }
             Some(command) => add(heap, &command, &mut calls)?,
         }
