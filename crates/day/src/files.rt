@@ -37,34 +37,57 @@ fn fill(mut file: File, bytes: &[u8], mode: Option<Permissions>) -> io::Result<(
     file.sync_all()
 }
 
-// The signs that stand in the place of a name's last one where FILE.new is no name for a new file.
+// The signs that stand in the place of a path's last one where no longer path can be taken.
 const LAST_SIGNS: [char; 8] = ['~', '^', '=', '+', '%', '@', '!', ','];
 
-// A file that was not there, beside the one of that path, and its own path: FILE.new, or, where there is one or its name is too
-// long, FILE with another last sign. So no file is touched that the day does not name.
-fn create_beside(rt: &HostRuntime, path: &str) -> io::Result<(File, String)> {
-    let usual = format!(in rt.alloc(); "{path}.new")?;
-    let why = match File::create_new(rt, usual.as_str()) {
-        Ok(file) => return Ok((file, usual)),
-        Err(why) => why,
-    };
-    if !matches!(
-        why.kind(),
-        ErrorKind::AlreadyExists | ErrorKind::InvalidFilename
-    ) {
-        return Err(why);
+// A name in the folder of the path that no day sensibly writes a register to.
+fn numbered(rt: &HostRuntime, path: &str, number: u16) -> io::Result<String> {
+    Ok(match path.rsplit_once('/') {
+        Some((folder, _)) => format!(in rt.alloc(); "{folder}/.foszkelad-{number}")?,
+        None => format!(in rt.alloc(); ".foszkelad-{number}")?,
+    })
+}
+
+// The file of that name, which was not there; None where something has the name.
+fn create_free(rt: &HostRuntime, name: &str) -> io::Result<Option<File>> {
+    match File::create_new(rt, name) {
+        Ok(file) => Ok(Some(file)),
+        Err(e) if e.kind() == ErrorKind::AlreadyExists => Ok(None),
+        Err(e) => Err(e),
     }
+}
+
+// A file that was not there, beside the one of the path, and its own path: the first number that is free.
+fn create_numbered(rt: &HostRuntime, path: &str) -> io::Result<(File, String)> {
+    for number in 0..u16::MAX {
+        let name = numbered(rt, path, number)?;
+        if let Some(file) = create_free(rt, name.as_str())? {
+            return Ok((file, name));
+        }
+    }
+    Err(ErrorKind::AlreadyExists.into())
+}
+
+// The same, with a path as long as the one told, whose last sign is another.
+fn create_as_long(rt: &HostRuntime, path: &str) -> io::Result<(File, String)> {
     let mut front = path.chars();
     let last = front.next_back();
     for sign in LAST_SIGNS {
         let name = format!(in rt.alloc(); "{}{sign}", front.as_str())?;
         if last != Some(sign) {
-            if let Ok(file) = File::create_new(rt, name.as_str()) {
+            if let Some(file) = create_free(rt, name.as_str())? {
                 return Ok((file, name));
             }
         }
     }
-    Err(why)
+    Err(ErrorKind::AlreadyExists.into())
+}
+
+fn create_beside(rt: &HostRuntime, path: &str) -> io::Result<(File, String)> {
+    match create_numbered(rt, path) {
+        Err(e) if e.kind() == ErrorKind::InvalidFilename => create_as_long(rt, path),
+        created => created,
+    }
 }
 
 // Writes a new file, and gives it the name of the path, which is the old one until then. Where that fails, no new file is left.

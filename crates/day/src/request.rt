@@ -15,8 +15,8 @@ docs/RULES.md, section 22.
 
 Answers are the same on all makes. Reads commands from standard input, and the
 files that `load` names. Prints answers on standard output, and on standard
-error why a day ends early. `write FILE` writes a new file beside, FILE.new if that
-is free, and renames it to FILE.
+error why a day ends early. `write FILE` writes a new file beside, and renames it
+to FILE.
 
 Exit status:
   0  the day ends at its close, at the end of its input, or at `refused 6`
